@@ -1,0 +1,12 @@
+pub mod Cases
+pub mod Inside
+pub mod Preservation
+pub mod Derivations
+pub mod Places
+pub mod Decomposition
+pub mod Ending
+pub mod Realisation
+pub mod Exactness
+pub mod NoSelfCall
+pub mod Counterexample
+pub mod Theorems

@@ -1,0 +1,1 @@
+// No code: the calculus is definitions (specs/) and theorems about them (proofs/).
