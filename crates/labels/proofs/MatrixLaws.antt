@@ -2,21 +2,21 @@
 -- Assumes nothing.
 use mathlib.Core.Path.{_≡_, refl, sym, ap, ap₂, _∙_, subst}
 use mathlib.Core.Logic.{⊎-elim}
-use mathlib.Core.List.{List}
-use Prim.Native.Nat.{ℕ, zero, suc, _+_, _*_, _/_, _%_, _^_, _≤_, _<_, min, max}
-use native.Mathlib.Nat.{max-comm, min-comm, suc-mul, mul-zero, mul-le-mul-right, mul-add-div-right, mul-add-mod-self-right, div-eq-of-lt, mod-eq-of-lt, mod-lt, add-zero, div-add-mod', div-lt-iff-lt-mul, lt-of-lt-of-le, eq-zero-or-pos, not-suc-le-zero}
+use mathlib.Core.List.{List, [], _∷_, _++_}
+use Prim.Native.Nat.{ℕ, zero, suc, _+_, _*_, _/_, _%_, _^_, _≤_, _<_, zero-le, min, max}
+use native.Mathlib.Nat.{le-trans, max-comm, min-comm, suc-mul, mul-zero, mul-le-mul-right, mul-add-div-right, mul-add-mod-self-right, div-eq-of-lt, mod-eq-of-lt, mod-lt, add-zero, div-add-mod', div-lt-iff-lt-mul, lt-of-lt-of-le, eq-zero-or-pos, not-suc-le-zero, le-of-suc-le-suc}
 use native.Mathlib.Decide.{decLt}
 use native.Mathlib.Omega.{arith}
-use lib.Bits.{bitOr, or-lt}
+use lib.Bits.{bitOr, or-lt, or-zero-l}
 use lib.Dec.{lit<}
-use lib.ListN.{length, getD, take, drop}
-use lib.Seq.{ext-getD, getD-take, getD-drop}
+use lib.ListN.{length, getD, take, drop, length-take, drop-of-length-le}
+use lib.Seq.{ext-getD, getD-take, getD-drop, take-nil}
 use Rattle.labels.specs.Words.{wordBits, bit, Words, changed}
-use Rattle.labels.specs.Sets.{ceiling, member, joined}
+use Rattle.labels.specs.Sets.{ceiling, member, none, joined}
 use Rattle.labels.specs.Matrix.{matrixWords, partners, marked, cleared, merged, crossed}
 use Rattle.labels.proofs.BitLaws.{bit-lt, bit-or, bit-times, bit-of-zero, bits-make-the-word}
 use Rattle.labels.proofs.ChangedLaws.{length-changed, changed-below, changed-beyond, words-changed}
-use Rattle.labels.proofs.SetLaws.{member-lt, member-at}
+use Rattle.labels.proofs.SetLaws.{member-lt, member-at, member-beyond, getD-none}
 
 pub marked-lt : (w : ℕ) (m : List ℕ) (i j : ℕ) → marked w m i j < 2
 unfolding marked
@@ -28,6 +28,31 @@ unfolding marked member
 marked-at w m i j h =
     ap (λ (x : ℕ). bit x (j % wordBits))
     (getD-take w (drop (i * w) m) (j / wordBits) 0 (omega arith) ∙ getD-drop (i * w) m (j / wordBits) 0)
+
+-- no pair stands past the last label, on either side
+pub marked-beyond-label :
+    (w : ℕ) (m : List ℕ) (i j : ℕ) → length m ≤ matrixWords w → ceiling w ≤ i → marked w m i j ≡ 0
+unfolding marked
+marked-beyond-label w m i j size h =
+    ap (λ (s : List ℕ). member (take w s) j) (drop-of-length-le m {i = i * w} (le-trans size (mul-le-mul-right w h)))
+    ∙ ap (λ (s : List ℕ). member s j) (take-nil w)
+    ∙ member-beyond [] j zero-le
+
+pub marked-beyond-partner : (w : ℕ) (m : List ℕ) (i j : ℕ) → ceiling w ≤ j → marked w m i j ≡ 0
+unfolding marked
+marked-beyond-partner w m i j h =
+    member-beyond (partners w m i) j (omega (arith, length-take w (drop (i * w) m)))
+
+-- nothing is marked in a matrix of zeros
+pub marked-none : (w i j : ℕ) → marked w (none (matrixWords w)) i j ≡ 0
+marked-none w i j = go (decLt j (ceiling w))
+  where
+    go : Dec (j < ceiling w) → marked w (none (matrixWords w)) i j ≡ 0
+    go (yes h) =
+        marked-at w (none (matrixWords w)) i j h
+        ∙ ap (λ (x : ℕ). bit x (j % wordBits)) (getD-none (matrixWords w) (i * w + j / wordBits))
+        ∙ bit-of-zero (j % wordBits)
+    go (no h) = marked-beyond-partner w (none (matrixWords w)) i j (omega arith)
 
 member-word : (s : List ℕ) (l : ℕ) → member s l ≡ bit (getD s (l / wordBits) 0) (l % wordBits)
 unfolding member
@@ -125,7 +150,7 @@ words-cleared w m = words-changed (matrixWords w) (λ k x. 0) m (λ k x h. lit< 
 
 -- a bit times a word is a word
 pub times-fits : (t x : ℕ) → t < 2 → x < 2 ^ wordBits → t * x < 2 ^ wordBits
-times-fits t x ht hx = omega (arith, mul-le-mul-right x (native.Mathlib.Nat.le-of-suc-le-suc ht), native.Mathlib.Nat.one-mul x)
+times-fits t x ht hx = omega (arith, mul-le-mul-right x (le-of-suc-le-suc ht), native.Mathlib.Nat.one-mul x)
 
 pub words-crossed : (w : ℕ) (a b m : List ℕ) → Words a → Words b → Words m → Words (crossed w a b m)
 unfolding crossed
@@ -169,3 +194,18 @@ marks-make-the-matrix w m n e wm wn beyond same =
     either : (k : ℕ) → Dec (k < matrixWords w) → getD m k 0 ≡ getD n k 0
     either k (yes h) = inside k h
     either k (no h) = beyond k (omega arith)
+
+-- a merge into a cleared matrix puts the other in its place; words beyond stay
+joined-replaced : (n : ℕ) (m x : List ℕ) → n ≤ length m → length x ≡ n → joined n (changed n (λ k y. 0) m) x ≡ x ++ drop n m
+unfolding joined changed
+joined-replaced zero m [] h e = refl
+joined-replaced zero m (z ∷ x) h e = absurd (omega arith)
+joined-replaced (suc n) [] x h e = absurd (omega arith)
+joined-replaced (suc n) (y ∷ m) [] h e = absurd (omega arith)
+joined-replaced (suc n) (y ∷ m) (z ∷ x) h e =
+    ap₂ (λ (v : ℕ) (t : List ℕ). v ∷ t) (or-zero-l z) (joined-replaced n m x (le-of-suc-le-suc h) (omega arith))
+
+pub merged-cleared :
+    (w : ℕ) (m x : List ℕ) → matrixWords w ≤ length m → length x ≡ matrixWords w → merged w (cleared w m) x ≡ x ++ drop (matrixWords w) m
+unfolding cleared
+merged-cleared w m x h e = joined-replaced (matrixWords w) m x h e

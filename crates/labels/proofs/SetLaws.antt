@@ -9,7 +9,7 @@ use native.Mathlib.Decide.{ℕ-discrete}
 use native.Mathlib.Omega.{arith}
 use lib.Bits.{bitOr, or-lt}
 use lib.Dec.{eqb, lit<}
-use lib.ListN.{length, getD, set, replicate, length-replicate}
+use lib.ListN.{length, getD, set, replicate, length-replicate, List·getD-eq-default}
 use lib.Pow.{pow-lt}
 use lib.Seq.{ext-getD, getD-set-same, getD-set-other}
 use borrow.Author.Tests.{eq-eqb, ne-eqb}
@@ -27,7 +27,7 @@ pub member-at : (s : List ℕ) (k i : ℕ) → i < wordBits → member s (k * wo
 unfolding member
 member-at s k i h = ap₂ (λ (q r : ℕ). bit (getD s q 0) r) (omega arith) (omega arith)
 
-getD-none : (w k : ℕ) → getD (none w) k 0 ≡ 0
+pub getD-none : (w k : ℕ) → getD (none w) k 0 ≡ 0
 getD-none zero k = refl
 getD-none (suc w) zero = refl
 getD-none (suc w) (suc k) = getD-none w k
@@ -35,6 +35,12 @@ getD-none (suc w) (suc k) = getD-none w k
 pub member-none : (w l : ℕ) → member (none w) l ≡ 0
 unfolding member
 member-none w l = ap (λ (x : ℕ). bit x (l % wordBits)) (getD-none w (l / wordBits)) ∙ bit-of-zero (l % wordBits)
+
+-- no label stands past the last word
+pub member-beyond : (s : List ℕ) (l : ℕ) → ceiling (length s) ≤ l → member s l ≡ 0
+unfolding member
+member-beyond s l h =
+    ap (λ (x : ℕ). bit x (l % wordBits)) (List·getD-eq-default s 0 {n = l / wordBits} (omega arith)) ∙ bit-of-zero (l % wordBits)
 
 pub member-joined :
     (n : ℕ) (a b : List ℕ) (l : ℕ) → l / wordBits < n → l / wordBits < length a → member (joined n a b) l ≡ max (member a l) (member b l)
@@ -69,6 +75,18 @@ words-none w k = subst (λ (x : ℕ). x < 2 ^ wordBits) (sym (getD-none w k)) (l
 pub length-single : (w l : ℕ) → length (single w l) ≡ w
 unfolding single
 length-single w l = lib.ListN.length-set (none w) (l / wordBits) (2 ^ (l % wordBits)) ∙ length-replicate w 0
+
+words-set : (s : List ℕ) (i v : ℕ) → v < 2 ^ wordBits → Words s → Words (set s i v)
+words-set [] i v h ws k = ws k
+words-set (x ∷ s) zero v h ws zero = h
+words-set (x ∷ s) zero v h ws (suc k) = ws (suc k)
+words-set (x ∷ s) (suc i) v h ws zero = ws zero
+words-set (x ∷ s) (suc i) v h ws (suc k) = words-set s i v h (λ j. ws (suc j)) k
+
+pub words-single : (w l : ℕ) → Words (single w l)
+unfolding single
+words-single w l =
+    words-set (none w) (l / wordBits) (2 ^ (l % wordBits)) (pow-lt (mod-lt l (lit< tt))) (words-none w)
 
 same-word : (w l k : ℕ) → l < ceiling w → k / wordBits ≡ l / wordBits → member (single w l) k ≡ oneIf (eqb (l % wordBits) (k % wordBits))
 unfolding member single

@@ -1,0 +1,54 @@
+-- The definitions at small tables, worked out by computation.
+-- Assumes nothing.
+use Prim.Native.Nat.{ℕ}
+use mathlib.Core.List.{[], _∷_}
+use mathlib.Core.Path.{_≡_, refl}
+use Rattle.labels.specs.Words.{sumBelow}
+use Rattle.calculus.specs.Syntax.{Stmt}
+use Rattle.recipe.specs.Tables.{Table, tableOf}
+use Rattle.recipe.specs.Rules.{lowest, sizesRight, operandsRight, usesBy, refusedAt, judged, admitted}
+use Rattle.recipe.specs.Statements.{rowStatement, statementTo, statementAt, programOf}
+use Rattle.recipe.specs.declared.Refusal.the-variants.{Sizes, UnknownKind, WrongOperand, NoSuchRow, UsedAgain, Unused}
+use Rattle.recipe.specs.declared.Judged.the-variants.{Refused}
+
+-- A table of one row, which is main.
+abbrev one : ℕ → ℕ → ℕ → Table
+one kind x y = tableOf (kind ∷ []) (x ∷ []) (y ∷ []) (0 ∷ [])
+
+-- A table of a skip and one row more, with one procedure.
+abbrev two : ℕ → ℕ → ℕ → ℕ → Table
+two kind x y root = tableOf (0 ∷ kind ∷ []) (0 ∷ x ∷ []) (0 ∷ y ∷ []) (root ∷ [])
+
+-- The limits: labels end below the ceiling, children stand below their row, calls name a procedure, operands without use are 0.
+limits :
+    admitted (one 1 63 0)
+    × (judged (one 1 64 0) ≡ Refused (WrongOperand (record { 0 = 0 })))
+    × admitted (one 6 0 0)
+    × (judged (one 6 1 0) ≡ Refused (WrongOperand (record { 0 = 0 })))
+    × (judged (one 0 0 1) ≡ Refused (WrongOperand (record { 0 = 0 })))
+    × (judged (one 7 0 0) ≡ Refused (UnknownKind (record { 0 = 0 })))
+    × admitted (two 3 0 0 1)
+    × (judged (two 3 1 0 1) ≡ Refused (WrongOperand (record { 0 = 1 })))
+    × (judged (two 3 0 0 2) ≡ Refused (NoSuchRow (record { 0 = 0 })))
+    × (judged (two 2 0 0 1) ≡ Refused (UsedAgain (record { 0 = 0 })))
+    × (judged (two 0 0 0 1) ≡ Refused (Unused (record { 0 = 0 })))
+    × (judged (tableOf [] [] [] []) ≡ Refused Sizes)
+    × (judged (tableOf (0 ∷ []) [] (0 ∷ []) (0 ∷ [])) ≡ Refused Sizes)
+unfolding judged refusedAt lowest sizesRight operandsRight usesBy sumBelow
+limits = (refl, refl, refl, refl, refl, refl, refl, refl, refl, refl, refl, refl, refl)
+
+-- A table with each of the seven kinds: main is async {step 0}; step 1, then come call 1 and finish {loop {skip}}.
+abbrev seven : Table
+seven =
+    tableOf (1 ∷ 4 ∷ 1 ∷ 2 ∷ 6 ∷ 0 ∷ 3 ∷ 5 ∷ []) (0 ∷ 0 ∷ 1 ∷ 1 ∷ 1 ∷ 0 ∷ 5 ∷ 6 ∷ [])
+    (0 ∷ 0 ∷ 0 ∷ 2 ∷ 0 ∷ 0 ∷ 0 ∷ 0 ∷ []) (3 ∷ 4 ∷ 7 ∷ [])
+
+seven-admitted : admitted seven
+unfolding judged refusedAt lowest sizesRight operandsRight usesBy sumBelow
+seven-admitted = refl
+
+seven-read :
+    programOf seven
+    ≡ Stmt.seq (Stmt.async (Stmt.step 0)) (Stmt.step 1) ∷ Stmt.call 1 ∷ Stmt.finish (Stmt.loop Stmt.skip) ∷ []
+unfolding statementAt statementTo rowStatement
+seven-read = refl

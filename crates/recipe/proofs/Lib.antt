@@ -1,0 +1,11 @@
+mod Examples
+pub mod Lowest
+pub mod Sums
+pub mod Operands
+pub mod Counters
+pub mod Judging
+pub mod Admitted
+pub mod Readings
+pub mod Bodies
+pub mod Refusals
+pub mod Unique

@@ -1,0 +1,85 @@
+-- `recipe::rules::wrong_operand` meets its contract: the search passes the rows whose operands are right, and stops at the first
+-- row whose operands are not. Assumes nothing.
+use Prim.Native.Nat.{_-_}
+use mathlib.Core.Path.{ap, sym, _∙_}
+use mathlib.Core.Bool.{not}
+use lib.ListN.{length}
+use native.Mathlib.Omega.{arith}
+use Rattle.recipe.specs.Tables.{tableOf}
+use Rattle.recipe.specs.Rules.{operandWrong}
+use Rattle.recipe.proofs.Lowest.{Passed, passed-none, passed-more, passed-found, passed-all}
+use Rattle.recipe.proofs.rules.wrong_operand.Statement.{statement}
+use Rattle.recipe.proofs.rules.wrong_operand.Tie as tie
+
+abbrev Inv-loop : tie.InvT-loop
+Inv-loop kinds xs ys roots i₀ i = Passed (length kinds) (operandWrong (tableOf kinds xs ys roots)) i
+
+abbrev μ-loop : tie.MeasureT-loop
+μ-loop kinds xs ys roots i₀ i = length kinds - i
+
+loop-holds : tie.Need-loop-holds Inv-loop μ-loop
+loop-holds c = passed-none _ _
+
+shared-slice-read-operands-right : tie.Need-shared-slice-read-operands-right Inv-loop μ-loop
+shared-slice-read-operands-right c = omega arith
+
+mul-operands-right : tie.Need-mul-operands-right Inv-loop μ-loop
+mul-operands-right c = omega arith
+
+shared-slice-read-operands-right-2 : tie.Need-shared-slice-read-operands-right-2 Inv-loop μ-loop
+shared-slice-read-operands-right-2 c = omega arith
+
+cast-operands-right : tie.Need-cast-operands-right Inv-loop μ-loop
+cast-operands-right c = omega (arith, c .shared-slice-known6 .given (c .before .before .before .loop .i))
+
+mul-operands-right-2 : tie.Need-mul-operands-right-2 Inv-loop μ-loop
+mul-operands-right-2 c = omega arith
+
+shared-slice-read-operands-right-3 : tie.Need-shared-slice-read-operands-right-3 Inv-loop μ-loop
+shared-slice-read-operands-right-3 c = omega arith
+
+cast-operands-right-2 : tie.Need-cast-operands-right-2 Inv-loop μ-loop
+cast-operands-right-2 c = omega (arith, c .shared-slice-known7 .given (c .before .before .before .before .loop .i))
+
+operands-right-requires : tie.Need-operands-right-requires Inv-loop μ-loop
+operands-right-requires c κs = tt
+
+returns : tie.Need-returns Inv-loop μ-loop
+returns c =
+    let head = c .before .before .before .before .before .before in
+    passed-found _ _ _ (head .loop .inv) (ap not (sym (c .before .operands-right .ensures)) ∙ c .if1 .taken)
+
+add-i : tie.Need-add-i Inv-loop μ-loop
+add-i c = omega arith
+
+loop-less : tie.Need-loop-less Inv-loop μ-loop
+loop-less c = omega arith
+
+loop-again : tie.Need-loop-again Inv-loop μ-loop
+loop-again c =
+    let turn = c .before .before .before .before .before in
+    passed-more _ _ _ (turn .loop-test .taken) (turn .before .loop .inv) (ap not (sym (c .before .operands-right .ensures)) ∙ c .if1 .left)
+
+returns-2 : tie.Need-returns-2 Inv-loop μ-loop
+returns-2 c = passed-all _ _ _ (c .before .loop .inv) (c .loop-test .left)
+
+pub wrong-operand-spec : {M : Type 1} → statement M
+wrong-operand-spec =
+    tie.close
+    (tie.spec
+    Inv-loop
+    μ-loop
+    loop-holds
+    shared-slice-read-operands-right
+    mul-operands-right
+    shared-slice-read-operands-right-2
+    cast-operands-right
+    mul-operands-right-2
+    shared-slice-read-operands-right-3
+    cast-operands-right-2
+    operands-right-requires
+    returns
+    add-i
+    loop-less
+    loop-again
+    returns-2)

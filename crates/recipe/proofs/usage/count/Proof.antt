@@ -1,0 +1,36 @@
+-- `recipe::usage::count` meets its contract: a counter below two goes one up, and one at two stays, as the least of two and the count does.
+-- Assumes nothing.
+use Rattle.recipe.proofs.Counters.{counts-up, counts-stay}
+use denote.Ref.{now}
+use borrow.Author.Needs.{needs}
+use Rattle.recipe.proofs.usage.count.Statement.{statement}
+use Rattle.recipe.proofs.usage.count.Tie as tie
+
+element-copy-out-if1 : tie.Need-element-copy-out-if1
+element-copy-out-if1 c = search needs
+
+element-copy-out-counts : tie.Need-element-copy-out-counts
+element-copy-out-counts c = search needs
+
+add-counts : tie.Need-add-counts
+add-counts c = search needs
+
+element-write-counts : tie.Need-element-write-counts
+element-write-counts c = search needs
+
+returns : tie.Need-returns
+returns c = let a = c .before .before .before .args in counts-up (now (a .counts)) (a .row) (c .before .before .before .pre) (c .before .if1 .taken)
+
+returns-2 : tie.Need-returns-2
+returns-2 c = let a = c .before .before .args in counts-stay (now (a .counts)) (a .row) (c .before .before .pre) (c .if1 .left)
+
+pub count-spec : {M : Type 1} → statement M
+count-spec =
+    tie.close
+    (tie.spec
+    element-copy-out-if1
+    element-copy-out-counts
+    add-counts
+    element-write-counts
+    returns
+    returns-2)

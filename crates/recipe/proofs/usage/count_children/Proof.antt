@@ -1,0 +1,89 @@
+-- `recipe::usage::count_children` meets its contract: after i turns the counters hold the uses by the first i rows.
+-- Assumes nothing.
+use Prim.Native.Nat.{_≤_, _-_}
+use mathlib.Core.List.{[]}
+use mathlib.Core.Path.{_≡_, sym}
+use lib.ListN.{length}
+use denote.Ref.{now}
+use native.Mathlib.Omega.{arith}
+use Rattle.labels.specs.Words.{sumBelow}
+use Rattle.recipe.specs.Tables.{tableOf}
+use Rattle.recipe.specs.Rules.{childUses}
+use Rattle.recipe.specs.Counting.{Counts}
+use Rattle.recipe.proofs.Sums.{sum-next}
+use Rattle.recipe.proofs.Counters.{counts-same}
+use Rattle.recipe.proofs.usage.count_children.Statement.{statement}
+use Rattle.recipe.proofs.usage.count_children.Tie as tie
+
+abbrev Inv-loop : tie.InvT-loop
+Inv-loop counts₀ kinds xs ys i₀ counts i = (i ≤ length kinds) × Counts counts (childUses (tableOf kinds xs ys []) i)
+
+abbrev μ-loop : tie.MeasureT-loop
+μ-loop counts₀ kinds xs ys i₀ counts i = length kinds - i
+
+loop-holds : tie.Need-loop-holds Inv-loop μ-loop
+unfolding sumBelow
+loop-holds c = (omega arith, c .before .before .before .pre .1 .1)
+
+shared-slice-read-count-row : tie.Need-shared-slice-read-count-row Inv-loop μ-loop
+shared-slice-read-count-row c = omega arith
+
+mul-count-row : tie.Need-mul-count-row Inv-loop μ-loop
+mul-count-row c = omega arith
+
+shared-slice-read-count-row-2 : tie.Need-shared-slice-read-count-row-2 Inv-loop μ-loop
+shared-slice-read-count-row-2 c = omega arith
+
+cast-count-row : tie.Need-cast-count-row Inv-loop μ-loop
+cast-count-row c = omega (arith, c .shared-slice-known5 .given (c .before .before .before .before .loop .i))
+
+mul-count-row-2 : tie.Need-mul-count-row-2 Inv-loop μ-loop
+mul-count-row-2 c = omega arith
+
+shared-slice-read-count-row-3 : tie.Need-shared-slice-read-count-row-3 Inv-loop μ-loop
+shared-slice-read-count-row-3 c = omega arith
+
+cast-count-row-2 : tie.Need-cast-count-row-2 Inv-loop μ-loop
+cast-count-row-2 c = omega (arith, c .shared-slice-known6 .given (c .before .before .before .before .before .loop .i))
+
+count-row-requires : tie.Need-count-row-requires Inv-loop μ-loop
+count-row-requires c κs i u =
+    let turn = c .before .before .before .before in
+    let start = turn .before .before .before .before .before in
+    start .pre .1 .0 (turn .before .loop .i) i (turn .loop-test .taken) u
+
+add-i : tie.Need-add-i Inv-loop μ-loop
+add-i c = omega arith
+
+loop-less : tie.Need-loop-less Inv-loop μ-loop
+loop-less c = omega arith
+
+loop-again : tie.Need-loop-again Inv-loop μ-loop
+loop-again c =
+    let head = c .before .before .before .before .before .before in
+    (omega arith, counts-same (c .count-row .last .0) _ _ (λ i. sym (sum-next _ _)) (c .count-row .ensures _ (head .loop .inv .1)))
+
+returns : tie.Need-returns Inv-loop μ-loop
+returns c =
+    let e : c .before .loop .i ≡ length (now (c .before .before .before .before .before .args .kinds)) = omega arith in
+    rw e at (c .before .loop .inv .1)
+
+pub count-children-spec : {M : Type 1} → statement M
+count-children-spec =
+    tie.close
+    (tie.spec
+    Inv-loop
+    μ-loop
+    loop-holds
+    shared-slice-read-count-row
+    mul-count-row
+    shared-slice-read-count-row-2
+    cast-count-row
+    mul-count-row-2
+    shared-slice-read-count-row-3
+    cast-count-row-2
+    count-row-requires
+    add-i
+    loop-less
+    loop-again
+    returns)

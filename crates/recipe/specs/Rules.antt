@@ -1,0 +1,99 @@
+-- The rules of the table, and the order in which they are tried.
+use Prim.Native.Nat.{ℕ, zero, suc, _+_}
+use mathlib.Core.Path.{_≡_}
+use mathlib.Core.Bool.{Bool, false, cond, not, _&&_}
+use lib.ListN.{length}
+use lib.Dec.{eqb, ltb, leb}
+use Rattle.labels.specs.Words.{oneIf, sumBelow}
+use Rattle.labels.specs.Sets.{ceiling}
+use Rattle.recipe.specs.Ceilings.{rowCeiling, procCeiling}
+use Rattle.recipe.specs.Tables.{Table, Kind, kindOf, rows, procs, kindAt, xAt, yAt, rootAt}
+use Rattle.recipe.specs.declared.Refusal.{Refusal}
+use Rattle.recipe.specs.declared.Refusal.the-variants.{Sizes, UnknownKind, WrongOperand, NoSuchRow, UsedAgain, Unused}
+use Rattle.recipe.specs.declared.Judged.{Judged}
+use Rattle.recipe.specs.declared.Judged.the-variants.{Admitted, Refused}
+
+-- The least k below n at which the test passes, and n where there is none.
+unfoldable pub lowest : ℕ → (ℕ → Bool) → ℕ
+lowest zero test = zero
+lowest (suc n) test = cond (test zero) zero (suc (lowest n (λ k. test (suc k))))
+
+-- Whether n lies from 1 to the ceiling.
+abbrev pub fromOneTo : ℕ → ℕ → Bool
+fromOneTo top n = leb 1 n && leb n top
+
+-- Whether rows and procedures are neither none nor too many, and each row has both its operands.
+unfoldable pub sizesRight : ℕ → ℕ → ℕ → ℕ → Bool
+sizesRight rows xs ys procs = fromOneTo rowCeiling rows && fromOneTo procCeiling procs && eqb xs rows && eqb ys rows
+
+-- Whether a kind's number is above 6.
+abbrev pub kindUnknown : ℕ → Bool
+kindUnknown kind = ltb 6 kind
+
+-- Whether the operands x and y suit a row of this kind, with this number, in a table with so many procedures.
+unfoldable pub operandsRight : Kind → ℕ → ℕ → ℕ → ℕ → Bool
+operandsRight Kind.skip x y row procs = eqb x 0 && eqb y 0
+operandsRight Kind.step x y row procs = ltb x (ceiling 1) && eqb y 0
+operandsRight Kind.seq x y row procs = ltb x row && ltb y row
+operandsRight Kind.loop x y row procs = ltb x row && eqb y 0
+operandsRight Kind.async x y row procs = ltb x row && eqb y 0
+operandsRight Kind.finish x y row procs = ltb x row && eqb y 0
+operandsRight Kind.call x y row procs = ltb x procs && eqb y 0
+operandsRight Kind.unknown x y row procs = false
+
+-- Whether an operand of row i breaks the rule of the row's kind.
+abbrev pub operandWrong : Table → ℕ → Bool
+operandWrong t i = not (operandsRight (kindOf (kindAt t i)) (xAt t i) (yAt t i) i (procs t))
+
+-- Whether a root is not a row, of so many rows.
+abbrev pub rootMissing : ℕ → ℕ → Bool
+rootMissing rows root = leb rows root
+
+-- How often row i stands as a child of a row of this kind with the operands x and y.
+unfoldable pub usesBy : Kind → ℕ → ℕ → ℕ → ℕ
+usesBy Kind.skip x y i = 0
+usesBy Kind.step x y i = 0
+usesBy Kind.seq x y i = oneIf (eqb x i) + oneIf (eqb y i)
+usesBy Kind.loop x y i = oneIf (eqb x i)
+usesBy Kind.async x y i = oneIf (eqb x i)
+usesBy Kind.finish x y i = oneIf (eqb x i)
+usesBy Kind.call x y i = 0
+usesBy Kind.unknown x y i = 0
+
+-- How often row i stands as a child, in the first n rows.
+abbrev pub childUses : Table → ℕ → ℕ → ℕ
+childUses t n i = sumBelow n (λ j. usesBy (kindOf (kindAt t j)) (xAt t j) (yAt t j) i)
+
+-- How often row i stands as a root, in the first n procedures.
+abbrev pub rootUses : Table → ℕ → ℕ → ℕ
+rootUses t n i = sumBelow n (λ f. oneIf (eqb (rootAt t f) i))
+
+-- How often row i is used, as a child or as the root of a procedure, called or not.
+abbrev pub uses : Table → ℕ → ℕ
+uses t i = childUses t (rows t) i + rootUses t (procs t) i
+
+-- Whether row i is used more than once.
+abbrev pub usedAgain : Table → ℕ → Bool
+usedAgain t i = ltb 1 (uses t i)
+
+-- Whether row i is used by nobody.
+abbrev pub unused : Table → ℕ → Bool
+unused t i = eqb (uses t i) 0
+
+-- The refusal of the lowest place below n at which the test passes, and the next reply where it passes nowhere.
+unfoldable pub refusedAt : ℕ → (ℕ → Bool) → (ℕ → Refusal) → Judged → Judged
+refusedAt n test refusal next = cond (ltb (lowest n test) n) (Refused (refusal (lowest n test))) next
+
+-- What the judge replies: each rule is tried over the whole table before the next.
+unfoldable pub judged : Table → Judged
+judged t =
+    cond (not (sizesRight (rows t) (length (t .xs)) (length (t .ys)) (procs t))) (Refused Sizes)
+    (refusedAt (rows t) (λ i. kindUnknown (kindAt t i)) (λ i. UnknownKind (record { 0 = i }))
+    (refusedAt (rows t) (operandWrong t) (λ i. WrongOperand (record { 0 = i }))
+    (refusedAt (procs t) (λ f. rootMissing (rows t) (rootAt t f)) (λ f. NoSuchRow (record { 0 = f }))
+    (refusedAt (rows t) (usedAgain t) (λ i. UsedAgain (record { 0 = i }))
+    (refusedAt (rows t) (unused t) (λ i. Unused (record { 0 = i })) Admitted)))))
+
+-- The table is admitted.
+abbrev pub admitted : Table → Type 0
+admitted t = judged t ≡ Admitted
