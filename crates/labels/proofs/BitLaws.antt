@@ -1,7 +1,7 @@
 -- The bits of an or, an and, a product by a bit and a power of two, and that bits make the word: each by halving, one bit at a time.
 -- Assumes nothing.
-use mathlib.Core.Path.{_≡_, refl, sym, ap, ap₂, _∙_, subst}
-use Prim.Native.Nat.{ℕ, zero, suc, _+_, _*_, _/_, _%_, _^_, _≤_, _<_, min, max}
+use mathlib.Core.Path.{_≡_, sym, ap, _∙_, subst}
+use Prim.Native.Nat.{ℕ, zero, suc, _+_, _*_, _/_, _%_, _^_, _<_, min, max}
 use native.Mathlib.Nat.{zero-mul, one-mul, zero-div, zero-mod, div-one, mod-lt, pow-suc, mul-comm, mul-div-cancel, mul-mod-left, div-div-eq-div-mul, div-lt-iff-lt-mul, zero-min, min-eq-right, le-of-suc-le-suc, min-le-left, lt-of-le-of-lt}
 use native.Mathlib.Omega.{arith}
 use lib.Dec.{eqb, eqb·zero-suc, eqb·suc-zero, eqb·suc-suc, lit<}

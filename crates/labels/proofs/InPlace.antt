@@ -1,6 +1,6 @@
 -- A loop that changes the first words of a lent slice one by one: after i turns the slice is `changed` at i, and at the end at all the words that it holds.
 -- Assumes nothing.
-use mathlib.Core.Path.{_≡_, refl, sym, ap, ap₂, _∙_, subst}
+use mathlib.Core.Path.{_≡_, refl, sym, ap, ap₂, _∙_}
 use mathlib.Core.List.{List}
 use Prim.Native.Nat.{ℕ, _+_, _≤_, _<_, min}
 use native.Mathlib.Numerals.{add-one}
@@ -8,7 +8,7 @@ use native.Mathlib.Nat.{le-refl}
 use native.Mathlib.Omega.{arith}
 use lib.ListN.{length, getD, set, length-set}
 use Rattle.labels.specs.Words.{changed}
-use Rattle.labels.proofs.ChangedLaws.{length-changed, changed-beyond, changed-step, changed-short}
+use Rattle.labels.proofs.ChangedLaws.{changed-beyond, changed-step, changed-short}
 
 pub record Changing (most : ℕ) (f : ℕ → ℕ → ℕ) (old : List ℕ) (n : ℕ) (new : List ℕ) (i : ℕ) : Type 0 where
   pub passed : i ≤ n

@@ -14,9 +14,9 @@ use lib.Seq.{ext-getD, getD-take, getD-drop, take-nil}
 use Rattle.labels.specs.Words.{wordBits, bit, Words, changed}
 use Rattle.labels.specs.Sets.{ceiling, member, none, joined}
 use Rattle.labels.specs.Matrix.{matrixWords, partners, marked, cleared, merged, crossed}
-use Rattle.labels.proofs.BitLaws.{bit-lt, bit-or, bit-times, bit-of-zero, bits-make-the-word}
-use Rattle.labels.proofs.ChangedLaws.{length-changed, changed-below, changed-beyond, words-changed}
-use Rattle.labels.proofs.SetLaws.{member-lt, member-at, member-beyond, getD-none}
+use Rattle.labels.proofs.BitLaws.{bit-or, bit-times, bit-of-zero, bits-make-the-word}
+use Rattle.labels.proofs.ChangedLaws.{length-changed, changed-below, words-changed}
+use Rattle.labels.proofs.SetLaws.{member-lt, member-beyond, getD-none}
 
 pub marked-lt : (w : ℕ) (m : List ℕ) (i j : ℕ) → marked w m i j < 2
 unfolding marked

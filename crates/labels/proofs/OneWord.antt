@@ -1,17 +1,17 @@
 -- The case w = 1 in the code's own terms: a set is one word x, label l is bit l of it, and a word's label is its own number.
 -- Assumes nothing.
-use mathlib.Core.Path.{_≡_, refl, sym, ap, ap₂, _∙_, subst}
-use mathlib.Core.Bool.{Bool, true, false, not}
+use mathlib.Core.Path.{_≡_, refl, ap, ap₂, _∙_, subst}
+use mathlib.Core.Bool.{not}
 use mathlib.Core.List.{List, [], _∷_}
-use Prim.Native.Nat.{ℕ, zero, suc, _+_, _-_, _*_, _/_, _%_, _^_, _≤_, _<_, min}
-use native.Mathlib.Nat.{div-one, mod-one, div-eq-of-lt, mod-eq-of-lt, zero-mul, one-mul, add-zero, zero-add, mul-suc, mul-comm, pow-suc, min-eq-right, sub-zero, le-of-lt}
+use Prim.Native.Nat.{ℕ, zero, suc, _+_, _-_, _*_, _/_, _%_, _^_, _≤_, _<_}
+use native.Mathlib.Nat.{div-one, mod-one, div-eq-of-lt, mod-eq-of-lt, zero-mul, one-mul, zero-add, mul-suc, mul-comm, pow-suc, le-of-lt}
 use native.Mathlib.Omega.{arith}
 use lib.Bits.{bitOr, bitAnd, and-high}
 use lib.Count.{ones}
-use lib.Dec.{eqb, lit<}
-use lib.ListN.{length, getD, set, List·getD-eq-default}
+use lib.Dec.{eqb}
+use lib.ListN.{getD, set, List·getD-eq-default}
 use lib.Pow.{low, pow-mono, pow-pos, suc-ones}
-use borrow.Author.Tests.{eq-eqb, ne-eqb}
+use borrow.Author.Tests.{ne-eqb}
 use Rattle.labels.specs.Words.{wordBits, bit, Words, changed, sumBelow}
 use Rattle.labels.specs.Sets.{ceiling, member, none, single, joined, union}
 use Rattle.labels.specs.Matrix.{matrixWords, crossed, pairsAtOrAbove}

@@ -3,20 +3,20 @@
 use mathlib.Core.Logic.{_≢_}
 use mathlib.Core.Path.{_≡_, refl, sym, ap, ap₂, _∙_, subst}
 use mathlib.Core.List.{List, [], _∷_}
-use Prim.Native.Nat.{ℕ, zero, suc, _+_, _*_, _/_, _%_, _^_, _≤_, _<_, min, max}
+use Prim.Native.Nat.{ℕ, zero, suc, _+_, _*_, _/_, _%_, _^_, _≤_, _<_, max}
 use native.Mathlib.Nat.{mod-lt}
 use native.Mathlib.Decide.{ℕ-discrete}
 use native.Mathlib.Omega.{arith}
 use lib.Bits.{bitOr, or-lt}
 use lib.Dec.{eqb, lit<}
-use lib.ListN.{length, getD, set, replicate, length-replicate, List·getD-eq-default}
+use lib.ListN.{length, getD, set, length-replicate, List·getD-eq-default}
 use lib.Pow.{pow-lt}
 use lib.Seq.{ext-getD, getD-set-same, getD-set-other}
 use borrow.Author.Tests.{eq-eqb, ne-eqb}
-use Rattle.labels.specs.Words.{wordBits, bit, oneIf, Words, changed}
+use Rattle.labels.specs.Words.{wordBits, bit, oneIf, Words}
 use Rattle.labels.specs.Sets.{ceiling, member, none, single, joined, union}
 use Rattle.labels.proofs.BitLaws.{bit-lt, bit-of-zero, bit-or, bit-of-power, bits-make-the-word}
-use Rattle.labels.proofs.ChangedLaws.{length-changed, changed-below, changed-beyond, words-changed}
+use Rattle.labels.proofs.ChangedLaws.{length-changed, changed-below, words-changed}
 
 pub member-lt : (s : List ℕ) (l : ℕ) → member s l < 2
 unfolding member

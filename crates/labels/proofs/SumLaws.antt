@@ -1,10 +1,9 @@
 -- Sums term by term, split in two, and the ones of a word as the sum of its bits: by recursion on the number of terms.
 -- Assumes nothing.
-use mathlib.Core.Path.{_≡_, refl, sym, ap, ap₂, _∙_, subst}
-use Prim.Native.Nat.{ℕ, zero, suc, _+_, _*_, _/_, _%_, _^_, _≤_, _<_}
-use native.Mathlib.Nat.{add-zero, zero-add, add-suc, add-assoc, le-refl, le-of-lt, le-suc, lt-of-lt-of-le, pow-suc, div-lt-iff-lt-mul}
+use mathlib.Core.Path.{_≡_, refl, sym, ap, ap₂, _∙_}
+use Prim.Native.Nat.{ℕ, zero, suc, _+_, _*_, _/_, _^_, _≤_, _<_}
+use native.Mathlib.Nat.{add-zero, zero-add, add-suc, add-assoc, le-refl}
 use native.Mathlib.Omega.{arith}
-use lib.Dec.{lit<}
 use lib.Arith.{lt-one}
 use lib.Count.{ones, ones-step}
 use Rattle.labels.specs.Words.{bit, sumBelow}

@@ -1,7 +1,6 @@
 -- Two replies and later contents that meet a public function's contract are equal, since each contract is an equation. `Post` is the contract itself.
 -- Assumes nothing.
 use mathlib.Core.Path.{_≡_, sym, _∙_}
-use mathlib.Core.List.{[], _∷_}
 use denote.Ref.{now}
 use Rattle.labels.proofs.Label.ceiling.Reads.{Post as ceiling-post}
 use Rattle.labels.proofs.Label.alone.Reads.{Post as alone-post}

@@ -1,7 +1,7 @@
 -- `Label::alone` meets its contract: below the ceiling the shift loses nothing and is the label's power of two; at or above it the set is empty.
 -- Assumes nothing.
-use mathlib.Core.Path.{_≡_, sym, ap, _∙_}
-use mathlib.Core.List.{List, [], _∷_}
+use mathlib.Core.Path.{sym, ap, _∙_}
+use mathlib.Core.List.{[], _∷_}
 use Prim.Native.Nat.{ℕ}
 use native.Mathlib.Nat.{one-mul}
 use lib.Dec.{lit<}

@@ -1,6 +1,6 @@
 -- `Label::is_in` meets its contract: the mask of the label leaves its bit, and no set of one word has a label at or above the ceiling.
 -- Assumes nothing.
-use mathlib.Core.Path.{_≡_, sym, ap, _∙_}
+use mathlib.Core.Path.{sym, ap, _∙_}
 use mathlib.Core.Bool.{not}
 use Prim.Native.Nat.{ℕ}
 use native.Mathlib.Nat.{one-mul}

@@ -1,10 +1,7 @@
 -- `clear` meets its contract: the loop changes each word that is there to 0.
 -- Assumes nothing.
-use mathlib.Core.Path.{_≡_, refl, sym, ap, _∙_}
-use mathlib.Core.List.{List, [], _∷_}
-use Prim.Native.Nat.{ℕ, _+_, _-_, _≤_, _<_}
-use denote.Ref.{now}
-use lib.ListN.{length, getD}
+use mathlib.Core.Path.{refl}
+use Prim.Native.Nat.{_-_}
 use Rattle.labels.specs.Matrix.{matrixWords}
 use Rattle.labels.proofs.InPlace.{Changing, begins, goes-on, ends}
 use Rattle.labels.specs.Matrix.{cleared}

@@ -1,8 +1,8 @@
 -- `crossed_word` meets its contract: a bit times a word fits a word, and the bits are the memberships.
 -- Assumes nothing.
-use mathlib.Core.Path.{_≡_, ap₂}
+use mathlib.Core.Path.{ap₂}
 use mathlib.Core.List.{[], _∷_}
-use Prim.Native.Nat.{ℕ, _*_, _<_, _^_}
+use Prim.Native.Nat.{ℕ, _*_}
 use lib.Bits.{bitOr}
 use Rattle.labels.proofs.SetLaws.{member-lt}
 use Rattle.labels.proofs.MatrixLaws.{times-fits}

@@ -1,10 +1,8 @@
 -- `merge` meets its contract: the loop joins each word that is there with the other matrix's.
 -- Assumes nothing.
-use mathlib.Core.Path.{_≡_, refl, sym, ap, _∙_}
-use mathlib.Core.List.{List, [], _∷_}
-use Prim.Native.Nat.{ℕ, _+_, _-_, _≤_, _<_}
-use denote.Ref.{now}
-use lib.ListN.{length, getD}
+use mathlib.Core.Path.{ap}
+use Prim.Native.Nat.{_-_}
+use lib.ListN.{getD}
 use Rattle.labels.specs.Matrix.{matrixWords}
 use Rattle.labels.proofs.InPlace.{Changing, begins, goes-on, ends}
 use lib.Bits.{bitOr}

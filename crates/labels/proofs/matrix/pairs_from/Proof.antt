@@ -1,6 +1,6 @@
 -- `pairs_from` meets its contract: the shifted mask is the ones from bit i on.
 -- Assumes nothing.
-use mathlib.Core.Path.{_≡_, ap}
+use mathlib.Core.Path.{ap}
 use Prim.Native.Nat.{ℕ}
 use lib.Bits.{bitAnd}
 use lib.Count.{ones}

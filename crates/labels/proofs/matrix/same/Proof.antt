@@ -1,11 +1,8 @@
 -- `same` meets its contract: from the highest word down, the matrices are alike as long as no word differs.
 -- Assumes nothing.
 use mathlib.Core.Path.{_≡_, refl, sym, ap, _∙_}
-use mathlib.Core.Bool.{true, false}
-use mathlib.Core.List.{List}
-use Prim.Native.Nat.{ℕ, suc, _-_, _≤_, _<_}
+use Prim.Native.Nat.{ℕ, _≤_}
 use denote.Ref.{now}
-use lib.ListN.{getD}
 use Rattle.labels.specs.Words.{alike}
 use Rattle.labels.specs.Matrix.{matrixWords}
 use Rattle.labels.proofs.AlikeLaws.{alike-down, differs-down, alike-none}

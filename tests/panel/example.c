@@ -1,0 +1,175 @@
+/*
+ * The panel's entries from C: reads the whole case from a sheet, works it out,
+ * prints its listing, and meets the refusals. Ends with status 0 if every
+ * reply and all lent storage are as they should be. Built and run by
+ * tests/panel/run.
+ */
+#include <stdio.h>
+#include <string.h>
+
+#include "panel.h"
+
+static const char whole_case[] =
+    "R\tstep\t0\t0\n"
+    "R\tasync\t0\t0\n"
+    "R\tstep\t1\t0\n"
+    "R\tasync\t2\t0\n"
+    "R\tstep\t2\t0\n"
+    "R\tseq\t3\t4\n"
+    "R\tfinish\t5\t0\n"
+    "R\tstep\t3\t0\n"
+    "R\tseq\t6\t7\n"
+    "R\tseq\t1\t8\n"
+    "P\t9\n";
+
+static const char whole_listing[] =
+    "pairs\t4\trounds\t1\texact\n"
+    "0\t1\n"
+    "0\t2\n"
+    "0\t3\n"
+    "1\t2\n";
+
+static uint8_t kinds[BUSHKALOTE_ROWS];
+static uint16_t xs[BUSHKALOTE_ROWS];
+static uint16_t ys[BUSHKALOTE_ROWS];
+static uint16_t roots[BUSHKALOTE_PROCEDURES];
+static uint64_t matrix[BUSHKALOTE_LABELS + 1];
+static uint8_t listing[BUSHKALOTE_LISTING_BYTES];
+static uint8_t long_sheet[BUSHKALOTE_SHEET_BYTES + 1];
+
+static int differences = 0;
+
+static void expect(const char *what, uint64_t reply, uint32_t number, uint32_t value)
+{
+    if (BUSHKALOTE_NUMBER(reply) == number && BUSHKALOTE_VALUE(reply) == value)
+        return;
+    fprintf(stderr, "%s: number %u value %u, expected number %u value %u\n", what,
+            (unsigned)BUSHKALOTE_NUMBER(reply), (unsigned)BUSHKALOTE_VALUE(reply),
+            (unsigned)number, (unsigned)value);
+    differences++;
+}
+
+static void expect_true(const char *what, int holds)
+{
+    if (holds)
+        return;
+    fprintf(stderr, "%s: does not hold\n", what);
+    differences++;
+}
+
+/* Reads a text into the storage above, with room for so many rows and procedures. */
+static uint64_t read_text(const char *text, size_t rows, size_t procedures)
+{
+    return bushkalote_read_sheet((const uint8_t *)text, strlen(text), kinds, rows, xs, rows, ys, rows,
+                                 roots, procedures);
+}
+
+static uint64_t analyse(size_t rows, size_t procedures, size_t words)
+{
+    return bushkalote_analyse(kinds, rows, xs, rows, ys, rows, roots, procedures, matrix, words);
+}
+
+static uint64_t list(size_t rows, size_t procedures, size_t room)
+{
+    return bushkalote_list_pairs(kinds, rows, xs, rows, ys, rows, roots, procedures, matrix,
+                                 BUSHKALOTE_LABELS, listing, room);
+}
+
+/* Reads a sheet and works it out; the reply of the analysis. */
+static uint64_t analyse_text(const char *text)
+{
+    uint64_t reply = read_text(text, BUSHKALOTE_ROWS, BUSHKALOTE_PROCEDURES);
+    if (BUSHKALOTE_NUMBER(reply) != 0)
+        return reply;
+    return analyse(BUSHKALOTE_ROWS_READ(reply), BUSHKALOTE_PROCEDURES_READ(reply), BUSHKALOTE_LABELS);
+}
+
+static int all_words(uint64_t word)
+{
+    for (size_t i = 0; i < BUSHKALOTE_LABELS; i++)
+        if (matrix[i] != word)
+            return 0;
+    return 1;
+}
+
+int main(void)
+{
+    const size_t full = sizeof whole_listing - 1;
+    uint64_t reply;
+
+    /* Reading: ten rows and one procedure. */
+    reply = read_text(whole_case, BUSHKALOTE_ROWS, BUSHKALOTE_PROCEDURES);
+    expect("read the whole case", reply, 0, 10 + 65536 * 1);
+    expect_true("row 5 is seq 3 4", kinds[5] == 2 && xs[5] == 3 && ys[5] == 4);
+    expect_true("main's root is row 9", roots[0] == 9);
+
+    /* The analysis: one round, four pairs, both ways round, and nothing beyond word 63. */
+    memset(matrix, 0xff, sizeof matrix);
+    expect("analyse the whole case", analyse(10, 1, BUSHKALOTE_LABELS + 1), 0, 1);
+    expect_true("partners of label 0", matrix[0] == 0xe);
+    expect_true("partners of label 1", matrix[1] == 0x5);
+    expect_true("partners of label 2", matrix[2] == 0x3);
+    expect_true("partners of label 3", matrix[3] == 0x1);
+    expect_true("no partners of label 63", matrix[63] == 0);
+    expect_true("the word beyond is untouched", matrix[64] == UINT64_MAX);
+
+    /* The listing. */
+    memset(listing, '#', sizeof listing);
+    expect("list the whole case", list(10, 1, sizeof listing), 0, (uint32_t)full);
+    expect_true("the listing", memcmp(listing, whole_listing, full) == 0);
+    expect_true("the byte beyond is untouched", listing[full] == '#');
+    if (differences == 0)
+        fwrite(listing, 1, full, stdout);
+
+    /* 14: one byte too few leaves bytes and matrix as they were; just enough is enough. */
+    memset(listing, '#', sizeof listing);
+    memset(matrix, 0x55, sizeof matrix);
+    expect("listing in too few bytes", list(10, 1, full - 1), 14, 0);
+    expect_true("the bytes are unchanged", listing[0] == '#' && listing[full - 2] == '#');
+    expect_true("the matrix is unchanged", all_words(0x5555555555555555u));
+    expect("listing in just enough bytes", list(10, 1, full), 0, (uint32_t)full);
+
+    /* 1 and 2. */
+    memset(matrix, 0x55, sizeof matrix);
+    expect("no rows", analyse(0, 1, BUSHKALOTE_LABELS), 1, 0);
+    expect("no procedures", analyse(10, 0, BUSHKALOTE_LABELS), 1, 0);
+    expect("slices of unequal length",
+           bushkalote_analyse(kinds, 10, xs, 9, ys, 10, roots, 1, matrix, BUSHKALOTE_LABELS), 1, 0);
+    expect("a short matrix", analyse(10, 1, BUSHKALOTE_LABELS - 1), 2, 0);
+    expect_true("the matrix is unchanged", all_words(0x5555555555555555u));
+
+    /* 3: only a table can have such a kind. */
+    kinds[4] = 7;
+    expect("a kind above 6", analyse(10, 1, BUSHKALOTE_LABELS), 3, 4);
+    kinds[4] = 1;
+
+    /* 4 to 7 from sheets. */
+    expect("label 63", analyse_text("R\tstep\t63\t0\nP\t0\n"), 0, 1);
+    memset(matrix, 0x55, sizeof matrix);
+    expect("label 64", analyse_text("R\tskip\t0\t0\nR\tstep\t64\t0\nP\t1\n"), 4, 1);
+    expect("a root that is no row", analyse_text("R\tskip\t0\t0\nP\t0\nP\t1\n"), 5, 1);
+    expect("a row used twice", analyse_text("R\tskip\t0\t0\nR\tseq\t0\t0\nP\t1\n"), 6, 0);
+    expect("a row used by nobody", analyse_text("R\tskip\t0\t0\nR\tskip\t0\t0\nP\t1\n"), 7, 0);
+    expect("an empty sheet", analyse_text(""), 1, 0);
+    expect_true("the matrix is unchanged", all_words(0x5555555555555555u));
+
+    /* 11 to 13 leave the storage as it was. */
+    memset(kinds, 0x77, sizeof kinds);
+    memset(long_sheet, '\n', sizeof long_sheet);
+    expect("a sheet too long",
+           bushkalote_read_sheet(long_sheet, sizeof long_sheet, kinds, BUSHKALOTE_ROWS, xs, BUSHKALOTE_ROWS,
+                                 ys, BUSHKALOTE_ROWS, roots, BUSHKALOTE_PROCEDURES),
+           11, 0);
+    expect("a missing last newline", read_text("R\tskip\t0\t0\nP\t0", 4, 4), 12, 1);
+    expect("a row after a procedure", read_text("R\tskip\t0\t0\nP\t0\nR\tskip\t0\t0\n", 4, 4), 12, 2);
+    expect("room for nine of ten rows", read_text(whole_case, 9, 1), 13, 9);
+    expect("room for no procedure", read_text(whole_case, 10, 0), 13, 10);
+    expect_true("the kinds are unchanged", kinds[0] == 0x77 && kinds[9] == 0x77);
+    expect("just enough room", read_text(whole_case, 10, 1), 0, 10 + 65536 * 1);
+
+    if (differences != 0) {
+        fprintf(stderr, "%d differences\n", differences);
+        return 1;
+    }
+    return 0;
+}

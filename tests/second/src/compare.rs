@@ -1,0 +1,291 @@
+//! Compares the second program with the entries of the panel, storage included.
+//!
+//! Everything lent is filled with a pattern first. After a refusal the pattern
+//! must stand everywhere, after a success everywhere beyond what is promised.
+
+use crate::dice::Dice;
+use crate::panel::{refused, shown, Panel};
+use crate::table::{judge, refusal, Table};
+use crate::{gen, sheet, work_out, Answer};
+use crate::{LABELS, LISTING_BYTES, PROCEDURES, ROWS};
+
+/// A difference, and what it was found on.
+pub struct Fault {
+    pub what: String,
+    pub input: Vec<u8>,
+}
+
+fn pattern_u8(n: usize, dice: &mut Dice) -> Vec<u8> {
+    let start = dice.draw() as u8;
+    (0..n).map(|i| start.wrapping_add((i * 7) as u8)).collect()
+}
+
+fn pattern_u16(n: usize, dice: &mut Dice) -> Vec<u16> {
+    let start = dice.draw() as u16;
+    (0..n)
+        .map(|i| start.wrapping_add((i * 259) as u16))
+        .collect()
+}
+
+fn pattern_u64(n: usize, dice: &mut Dice) -> Vec<u64> {
+    (0..n).map(|_| dice.draw()).collect()
+}
+
+fn same_reply(entry: &str, got: u64, want: u64) -> Result<(), String> {
+    if got == want {
+        Ok(())
+    } else {
+        Err(format!(
+            "{entry}: reply {}, expected {}",
+            shown(got),
+            shown(want)
+        ))
+    }
+}
+
+fn same<T: PartialEq + std::fmt::Debug>(
+    entry: &str,
+    what: &str,
+    got: &[T],
+    want: &[T],
+) -> Result<(), String> {
+    if got == want {
+        return Ok(());
+    }
+    let at = (0..got.len().max(want.len()))
+        .find(|&i| got.get(i) != want.get(i))
+        .unwrap();
+    Err(format!(
+        "{entry}: {what} at {at} is {:?}, expected {:?}",
+        got.get(at),
+        want.get(at)
+    ))
+}
+
+/// What reading must leave in a lent slice: the values read, then what was there.
+fn laid_over<T: Copy>(read: &[T], before: &[T]) -> Vec<T> {
+    let mut all = before.to_vec();
+    all[..read.len()].copy_from_slice(read);
+    all
+}
+
+/// Compares the reading of a sheet; `room` holds the lengths of kinds, xs, ys and roots.
+pub fn reading(
+    panel: &dyn Panel,
+    dice: &mut Dice,
+    bytes: &[u8],
+    room: [usize; 4],
+) -> Result<(), String> {
+    let entry = format!("read_sheet with room {room:?}");
+    let kinds_before = pattern_u8(room[0], dice);
+    let xs_before = pattern_u16(room[1], dice);
+    let ys_before = pattern_u16(room[2], dice);
+    let roots_before = pattern_u16(room[3], dice);
+    let mut kinds = kinds_before.clone();
+    let mut xs = xs_before.clone();
+    let mut ys = ys_before.clone();
+    let mut roots = roots_before.clone();
+    let reply = panel.read_sheet(bytes, &mut kinds, &mut xs, &mut ys, &mut roots);
+    let rows = room[0].min(room[1]).min(room[2]).min(ROWS);
+    let procedures = room[3].min(PROCEDURES);
+    let (want, table) = match sheet::read(bytes, rows, procedures) {
+        Ok(table) => (
+            (table.kinds.len() + 65_536 * table.roots.len()) as u64,
+            table,
+        ),
+        Err(refusal) => (refused(refusal), Table::default()),
+    };
+    same_reply(&entry, reply, want)?;
+    same(
+        &entry,
+        "kinds",
+        &kinds,
+        &laid_over(&table.kinds, &kinds_before),
+    )?;
+    same(&entry, "xs", &xs, &laid_over(&table.xs, &xs_before))?;
+    same(&entry, "ys", &ys, &laid_over(&table.ys, &ys_before))?;
+    same(
+        &entry,
+        "roots",
+        &roots,
+        &laid_over(&table.roots, &roots_before),
+    )
+}
+
+/// Compares the analysis; `answer` is the second program's, if the table is admitted.
+pub fn analysing(
+    panel: &dyn Panel,
+    dice: &mut Dice,
+    table: &Table,
+    answer: Option<&Answer>,
+    words: usize,
+) -> Result<(), String> {
+    let entry = format!("analyse with {words} words");
+    let before = pattern_u64(words, dice);
+    let mut matrix = before.clone();
+    let given = table.clone();
+    let reply = panel.analyse(
+        &given.kinds,
+        &given.xs,
+        &given.ys,
+        &given.roots,
+        &mut matrix,
+    );
+    if given != *table {
+        return Err(format!("{entry}: the recipe was written"));
+    }
+    match (judge(table, words), answer) {
+        (Err(refusal), _) => {
+            same_reply(&entry, reply, refused(refusal))?;
+            same(&entry, "matrix", &matrix, &before)
+        }
+        (Ok(()), Some(answer)) => {
+            same_reply(&entry, reply, answer.rounds as u64)?;
+            same(
+                &entry,
+                "matrix",
+                &matrix,
+                &laid_over(&answer.matrix, &before),
+            )
+        }
+        (Ok(()), None) => Err("an admitted table without an answer".to_string()),
+    }
+}
+
+/// Compares the listing into `room` lent bytes.
+pub fn listing(
+    panel: &dyn Panel,
+    dice: &mut Dice,
+    table: &Table,
+    answer: Option<&Answer>,
+    words: usize,
+    room: usize,
+) -> Result<(), String> {
+    let entry = format!("list_pairs with {words} words and {room} bytes");
+    let matrix_before = pattern_u64(words, dice);
+    let bytes_before = pattern_u8(room, dice);
+    let mut matrix = matrix_before.clone();
+    let mut bytes = bytes_before.clone();
+    let given = table.clone();
+    let reply = panel.list_pairs(
+        &given.kinds,
+        &given.xs,
+        &given.ys,
+        &given.roots,
+        &mut matrix,
+        &mut bytes,
+    );
+    if given != *table {
+        return Err(format!("{entry}: the recipe was written"));
+    }
+    let fits = answer.is_some_and(|a| a.listing.len() <= room);
+    let refusal = match judge(table, words) {
+        Err(refusal) => Some(refusal),
+        Ok(()) if !fits => Some(refusal(14, 0)),
+        Ok(()) => None,
+    };
+    match (refusal, answer) {
+        (None, Some(answer)) => {
+            same_reply(&entry, reply, answer.listing.len() as u64)?;
+            same(
+                &entry,
+                "matrix",
+                &matrix,
+                &laid_over(&answer.matrix, &matrix_before),
+            )?;
+            same(
+                &entry,
+                "bytes",
+                &bytes,
+                &laid_over(&answer.listing, &bytes_before),
+            )
+        }
+        (Some(refusal), _) => {
+            same_reply(&entry, reply, refused(refusal))?;
+            same(&entry, "matrix", &matrix, &matrix_before)?;
+            same(&entry, "bytes", &bytes, &bytes_before)
+        }
+        (None, None) => Err("an admitted table without an answer".to_string()),
+    }
+}
+
+/// The second program's answer, if the table is admitted.
+pub fn answer(table: &Table) -> Option<Answer> {
+    judge(table, LABELS).ok().map(|()| work_out(table))
+}
+
+/// Compares analysis and listing of a table with several lengths of what is lent.
+pub fn table(panel: &dyn Panel, dice: &mut Dice, table: &Table) -> Result<(), String> {
+    let answer = answer(table);
+    let answer = answer.as_ref();
+    let words = |dice: &mut Dice| match dice.below(10) {
+        0 => dice.one_of(&[0, 1, 32, 63]),
+        1..=4 => LABELS,
+        _ => dice.one_of(&[65, 66, 100, 128]),
+    };
+    let n = words(dice);
+    analysing(panel, dice, table, answer, n)?;
+    let length = answer.map_or(24, |a| a.listing.len());
+    let room = match dice.below(8) {
+        0 => 0,
+        1 => length - 1,
+        2 => dice.below(length),
+        3 | 4 => length,
+        5 => length + dice.between(1, 40),
+        _ => LISTING_BYTES,
+    };
+    let n = words(dice);
+    listing(panel, dice, table, answer, n, room)
+}
+
+/// Compares the reading of a sheet, and what follows where it is read.
+pub fn sheet(panel: &dyn Panel, dice: &mut Dice, bytes: &[u8]) -> Result<(), String> {
+    reading(panel, dice, bytes, [ROWS, ROWS, ROWS, PROCEDURES])?;
+    if dice.chance(50) {
+        let lines = bytes.split(|&b| b == b'\n').count().min(ROWS + 4);
+        let rows = |dice: &mut Dice| match dice.below(4) {
+            0 => dice.between(0, lines),
+            1 => lines.saturating_sub(dice.between(1, 3)),
+            _ => dice.one_of(&[ROWS, ROWS + 1, ROWS + 40, lines]),
+        };
+        let procedures = dice.one_of(&[0, 1, 2, 5, 63, 64, 65, 90]);
+        let room = [rows(dice), rows(dice), rows(dice), procedures];
+        reading(panel, dice, bytes, room)?;
+    }
+    match sheet::read(bytes, ROWS, PROCEDURES) {
+        Ok(read) => table(panel, dice, &read),
+        Err(_) => Ok(()),
+    }
+}
+
+/// One generated comparison.
+pub fn one(panel: &dyn Panel, seed: u64) -> Result<(), Fault> {
+    let mut dice = Dice::new(seed);
+    if dice.chance(60) {
+        let bytes = gen::sheet(&mut dice);
+        sheet(panel, &mut dice, &bytes).map_err(|what| Fault { what, input: bytes })
+    } else {
+        let plain = gen::table(&mut dice);
+        table(panel, &mut dice, &plain).map_err(|what| Fault {
+            what,
+            input: written(&plain),
+        })
+    }
+}
+
+/// A table as its sheet, or by its fields where no sheet stands for it.
+fn written(table: &Table) -> Vec<u8> {
+    let even = table.xs.len() == table.kinds.len() && table.ys.len() == table.kinds.len();
+    if even {
+        let bytes = sheet::spell(table);
+        if sheet::read(&bytes, ROWS, PROCEDURES).as_ref() == Ok(table) {
+            return bytes;
+        }
+    }
+    format!("{table:?}\n").into_bytes()
+}
+
+/// The seed of the i-th case of a run.
+pub fn seed_of(run: u64, i: u64) -> u64 {
+    run.wrapping_mul(1_000_000_007).wrapping_add(i)
+}

@@ -1,0 +1,267 @@
+//! The cases that the documents give, and tables that reach the limits, on the
+//! second program, on the Rust version of the benchmark, on the library where
+//! it is linked, and on the report program where it is named.
+
+mod common;
+
+use common::{note_if_no_library, report_program, run, versions};
+use second::dice::Dice;
+use second::samples::*;
+use second::table::{judge, Table};
+use second::{compare, printed, sheet, work_out, LABELS, LISTING_BYTES, PROCEDURES, ROWS};
+
+/// The pairs, rounds and word of an admitted table, checked in every version at hand.
+fn holds(table: &Table, pairs: &[(usize, usize)], rounds: usize, word: &str) {
+    judge(table, LABELS).expect("an admitted table");
+    let answer = work_out(table);
+    let mut text = format!("pairs\t{}\trounds\t{rounds}\t{word}\n", pairs.len());
+    let mut matrix = [0u64; LABELS];
+    for &(i, j) in pairs {
+        text.push_str(&format!("{i}\t{j}\n"));
+        matrix[i] |= 1 << j;
+        matrix[j] |= 1 << i;
+    }
+    assert_eq!(String::from_utf8_lossy(&answer.listing), text);
+    assert_eq!(answer.matrix, matrix);
+    assert_eq!(answer.rounds, rounds);
+    assert_eq!(answer.wide, word == "wide");
+    let bytes = sheet::spell(table);
+    assert_eq!(sheet::read(&bytes, ROWS, PROCEDURES), Ok(table.clone()));
+    assert_eq!(printed(&bytes), text.as_bytes());
+    let dice = &mut Dice::new(3);
+    for (name, panel) in versions() {
+        let panel = panel.as_ref();
+        compare::reading(panel, dice, &bytes, [ROWS, ROWS, ROWS, PROCEDURES])
+            .and_then(|()| compare::analysing(panel, dice, table, Some(&answer), LABELS))
+            .and_then(|()| {
+                compare::listing(panel, dice, table, Some(&answer), LABELS, LISTING_BYTES)
+            })
+            .unwrap_or_else(|what| panic!("{name}: {what}"));
+    }
+    if let Ok(path) = std::env::var("BUSHKALOTE_REPORT") {
+        if !path.is_empty() {
+            assert_eq!(
+                run(path.as_ref(), &bytes),
+                text.as_bytes(),
+                "the report program"
+            );
+        }
+    }
+}
+
+/// The refusal of a table, and the one of its sheet by the program.
+fn refused(table: &Table, number: u32, place: u32, printed_line: &str) {
+    let refusal = judge(table, LABELS).expect_err("a refused table");
+    assert_eq!((refusal.number, refusal.place), (number, place));
+    let bytes = sheet::spell(table);
+    assert_eq!(String::from_utf8_lossy(&printed(&bytes)), printed_line);
+    let dice = &mut Dice::new(4);
+    for (name, panel) in versions() {
+        compare::analysing(panel.as_ref(), dice, table, None, LABELS)
+            .and_then(|()| {
+                compare::listing(panel.as_ref(), dice, table, None, LABELS, LISTING_BYTES)
+            })
+            .and_then(|()| compare::sheet(panel.as_ref(), dice, &bytes))
+            .unwrap_or_else(|what| panic!("{name}: {what}"));
+    }
+    if let Ok(path) = std::env::var("BUSHKALOTE_REPORT") {
+        if !path.is_empty() {
+            assert_eq!(
+                run(path.as_ref(), &bytes),
+                printed_line.as_bytes(),
+                "the report program"
+            );
+        }
+    }
+}
+
+#[test]
+fn which_versions_are_at_hand() {
+    note_if_no_library("the documents' cases");
+    report_program("the documents' cases");
+}
+
+#[test]
+fn the_whole_case() {
+    let text = "R\tstep\t0\t0\nR\tasync\t0\t0\nR\tstep\t1\t0\nR\tasync\t2\t0\nR\tstep\t2\t0\nR\tseq\t3\t4\n\
+                R\tfinish\t5\t0\nR\tstep\t3\t0\nR\tseq\t6\t7\nR\tseq\t1\t8\nP\t9\n";
+    assert_eq!(
+        String::from_utf8(sheet::spell(&whole_case())).unwrap(),
+        text
+    );
+    holds(&whole_case(), &[(0, 1), (0, 2), (0, 3), (1, 2)], 1, "exact");
+}
+
+#[test]
+fn the_small_recipes() {
+    holds(&small(1), &[], 0, "exact");
+    holds(&small(2), &[], 1, "exact");
+    holds(&small(3), &[(5, 6)], 1, "exact");
+    holds(&small(4), &[], 1, "exact");
+    holds(&small(5), &[(0, 0)], 1, "exact");
+    holds(&small(6), &[], 1, "exact");
+    holds(&small(7), &[(0, 2), (1, 2)], 1, "exact");
+    holds(&small(8), &[(0, 1)], 2, "exact");
+    holds(&small(9), &[], 2, "exact");
+    holds(&small(10), &[(0, 0)], 3, "wide");
+    holds(&small(11), &[(0, 0)], 1, "wide");
+    holds(&small(12), &[], 0, "wide");
+}
+
+#[test]
+fn the_limits_of_recipe_thirteen() {
+    holds(&recipe(&[step(63)]), &[], 1, "exact");
+    refused(&recipe(&[step(64)]), 4, 0, "refused\t4\t0\n");
+    holds(&nested(1024, |_, s| waited(s)), &[], 1, "exact");
+    // As a table 1,025 rows are refused with 1; as a sheet the reader stops at line 1,024.
+    refused(&nested(1025, |_, s| waited(s)), 1, 0, "refused\t13\t1024\n");
+    let mut twice = Table::default();
+    twice.push(0, 0, 0);
+    twice.push(2, 0, 0);
+    twice.roots = vec![1];
+    refused(&twice, 6, 0, "refused\t6\t0\n");
+    let mut unused = Table::default();
+    unused.push(0, 0, 0);
+    unused.push(0, 0, 0);
+    unused.roots = vec![1];
+    refused(&unused, 7, 0, "refused\t7\t0\n");
+}
+
+#[test]
+fn figure_1_first_program() {
+    holds(&figure_first(), &[(1, 1), (2, 3)], 2, "exact");
+}
+
+#[test]
+fn figure_1_second_program() {
+    holds(&figure_second(), &[(1, 1)], 1, "wide");
+}
+
+#[test]
+fn figure_1_third_program() {
+    for n in [0, 1, 2, 3, 5, 9, 10, 31, 61, 62] {
+        let mut every = Vec::new();
+        for i in 0..=n {
+            for j in i..=n {
+                every.push((i, j));
+            }
+        }
+        holds(&figure_third(n), &every, n + 2, "wide");
+    }
+}
+
+#[test]
+fn the_ring_that_takes_three_rounds_a_procedure() {
+    assert_eq!(ring(1), small(10));
+    for n in (1..=8).chain([63, 64]) {
+        let table = ring(n);
+        assert_eq!(table.roots.len(), n);
+        assert_eq!(table.rows(), n + 5);
+        holds(&table, &[(0, 0)], 3 * n, "wide");
+    }
+}
+
+#[test]
+fn the_largest_tables() {
+    let large = large_ring();
+    assert_eq!((large.rows(), large.roots.len()), (ROWS, PROCEDURES));
+    assert_eq!(work_out(&large).rounds, 3 * PROCEDURES);
+    let flat = large_flat();
+    assert_eq!((flat.rows(), flat.roots.len()), (ROWS, PROCEDURES));
+    assert_eq!(work_out(&flat).rounds, 2);
+    for table in [large, flat] {
+        let dice = &mut Dice::new(5);
+        for (name, panel) in versions() {
+            compare::sheet(panel.as_ref(), dice, &sheet::spell(&table))
+                .and_then(|()| compare::table(panel.as_ref(), dice, &table))
+                .unwrap_or_else(|what| panic!("{name}: {what}"));
+        }
+    }
+}
+
+#[test]
+fn chains_as_deep_as_can_be() {
+    holds(&nested(ROWS, |_, s| looped(s)), &[], 1, "exact");
+    holds(&nested(ROWS, |_, s| spawned(s)), &[], 1, "exact");
+    holds(
+        &nested(ROWS, |i, s| if i == 1 { spawned(s) } else { looped(s) }),
+        &[(0, 0)],
+        1,
+        "exact",
+    );
+    // Sequences to the left and to the right, 511 deep, and one row more.
+    let left = nested(512, |i, s| {
+        if i == 1 {
+            spawned(seq(s, step(1)))
+        } else {
+            seq(s, step(1))
+        }
+    });
+    assert_eq!(left.rows(), 1024);
+    holds(&left, &[(0, 1), (1, 1)], 1, "exact");
+    let right = nested(512, |i, s| {
+        if i == 1 {
+            spawned(seq(step(1), s))
+        } else {
+            seq(step(1), s)
+        }
+    });
+    assert_eq!(right.rows(), 1024);
+    holds(&right, &[], 1, "exact");
+    // A side branch that a wait ends at every level.
+    let waits = nested(256, |_, s| waited(spawned(seq(step(1), s))));
+    assert_eq!(waits.rows(), 1021);
+    holds(&waits, &[], 1, "exact");
+}
+
+#[test]
+fn sixty_four_procedures() {
+    // A line of calls: the branch of the last comes to main after 64 rounds.
+    let mut line: Vec<Statement> = (1..PROCEDURES).map(call).collect();
+    line.push(spawned(step(9)));
+    let first = line[0].clone();
+    line[0] = seq(first, step(8));
+    holds(&recipe(&line), &[(8, 9)], PROCEDURES, "exact");
+    // One more is refused: 68 row lines, 64 procedure lines, then this one.
+    line.push(skip());
+    refused(&recipe(&line), 1, 0, "refused\t13\t132\n");
+}
+
+#[test]
+fn all_the_pairs() {
+    let mut every = Vec::new();
+    for i in 0..LABELS {
+        for j in i..LABELS {
+            every.push((i, j));
+        }
+    }
+    assert_eq!(every.len(), 2080);
+    holds(&recipe(&[all_together(LABELS)]), &every, 1, "exact");
+    // The longest listing: every pair after 64 rounds by the line of calls.
+    let mut line: Vec<Statement> = (1..PROCEDURES).map(call).collect();
+    line.push(all_together(LABELS));
+    let table = recipe(&line);
+    holds(&table, &every, PROCEDURES, "exact");
+    assert_eq!(work_out(&table).listing.len(), LISTING_BYTES - 1);
+}
+
+#[test]
+fn pairs_of_a_procedure_that_main_never_reaches_stay_out() {
+    let apart = recipe(&[
+        seq(spawned(step(0)), step(1)),
+        seq(spawned(step(2)), step(3)),
+    ]);
+    holds(&apart, &[(0, 1)], 1, "exact");
+}
+
+#[test]
+fn the_word_speaks_of_every_procedure() {
+    // Called by nobody, but in a ring: wide. Called twice without a ring: exact.
+    holds(&recipe(&[skip(), call(2), call(1)]), &[], 0, "wide");
+    holds(
+        &recipe(&[seq(call(1), call(2)), call(2), step(7)]),
+        &[],
+        2,
+        "exact",
+    );
+}
