@@ -19,10 +19,10 @@ use std::process::ExitCode;
 use std::time::Instant;
 use straight::Straight;
 
-/// The library, if it is linked.
+/// The library, if it is linked; behind a server its times would say nothing.
 #[cfg(panel)]
 fn library() -> Option<Box<dyn Panel>> {
-    Some(Box::new(second::panel::Library))
+    second::panel::library()
 }
 
 #[cfg(not(panel))]

@@ -12,6 +12,7 @@ pub mod dice;
 pub mod gen;
 pub mod listing;
 pub mod panel;
+pub mod remote;
 pub mod rounds;
 pub mod samples;
 pub mod sets;

@@ -45,7 +45,23 @@ pub fn shown(reply: u64) -> String {
     format!("number {} value {}", reply >> 32, reply & 0xffff_ffff)
 }
 
-/// The static library, linked when BUSHKALOTE_PANEL named its folder at build time.
+/// The static library: linked when BUSHKALOTE_PANEL named its folder at build
+/// time, else behind the server that BUSHKALOTE_SERVER names.
+pub fn library() -> Option<Box<dyn Panel>> {
+    #[cfg(panel)]
+    {
+        Some(Box::new(Library))
+    }
+    #[cfg(not(panel))]
+    {
+        match std::env::var("BUSHKALOTE_SERVER") {
+            Ok(path) if !path.is_empty() => Some(Box::new(crate::remote::Remote::start(&path))),
+            _ => None,
+        }
+    }
+}
+
+/// The static library, linked.
 #[cfg(panel)]
 pub struct Library;
 

@@ -1,4 +1,4 @@
-//! A long run of generated comparisons with the static library, in process.
+//! A long run of generated comparisons with the static library.
 //!
 //!   cargo run --release --bin long -- --n 1000000 --seed 1
 //!
@@ -29,18 +29,21 @@ fn arguments() -> Option<Wanted> {
     Some(wanted)
 }
 
-#[cfg(panel)]
 fn run(wanted: &Wanted) -> ExitCode {
     use second::compare;
-    use second::panel::Library;
+    use second::panel::library;
     use std::io::Write;
     use std::time::{Duration, Instant};
 
+    let Some(library) = library() else {
+        eprintln!("long: not run: neither BUSHKALOTE_PANEL (the folder of libpanel.a, at build time) nor BUSHKALOTE_SERVER is set");
+        return ExitCode::from(2);
+    };
     let start = Instant::now();
     let mut told = start;
     for i in 0..wanted.n {
         let seed = compare::seed_of(wanted.seed, i);
-        if let Err(fault) = compare::one(&Library, seed) {
+        if let Err(fault) = compare::one(library.as_ref(), seed) {
             eprintln!("long: difference in case {i} (seed {seed}): {}", fault.what);
             let _ = std::io::stdout().lock().write_all(&fault.input);
             return ExitCode::from(1);
@@ -62,15 +65,6 @@ fn run(wanted: &Wanted) -> ExitCode {
         start.elapsed().as_secs()
     );
     ExitCode::SUCCESS
-}
-
-#[cfg(not(panel))]
-fn run(wanted: &Wanted) -> ExitCode {
-    eprintln!(
-        "long: not run: BUSHKALOTE_PANEL (the folder of libpanel.a) was not set at build time; {} cases from seed {} asked for",
-        wanted.n, wanted.seed
-    );
-    ExitCode::from(2)
 }
 
 fn main() -> ExitCode {

@@ -22,21 +22,15 @@ pub fn versions() -> Vec<(&'static str, Box<dyn Panel>)> {
     all
 }
 
-#[cfg(panel)]
 pub fn library() -> Option<(&'static str, Box<dyn Panel>)> {
-    Some(("library", Box::new(second::panel::Library)))
-}
-
-#[cfg(not(panel))]
-pub fn library() -> Option<(&'static str, Box<dyn Panel>)> {
-    None
+    second::panel::library().map(|library| ("library", library))
 }
 
 /// Says in a test that it could not run on the library.
 pub fn note_if_no_library(test: &str) {
     if library().is_none() {
         note(&format!(
-            "not run: {test} on the static library (BUSHKALOTE_PANEL, the folder of libpanel.a, is not set)"
+            "not run: {test} on the static library (neither BUSHKALOTE_PANEL nor BUSHKALOTE_SERVER is set)"
         ));
     }
 }
@@ -64,8 +58,8 @@ pub fn report_program(test: &str) -> Option<PathBuf> {
 
 /// What a program prints for a sheet on its standard input.
 pub fn run(program: &std::path::Path, sheet: &[u8]) -> Vec<u8> {
-    use std::process::{Command, Stdio};
-    let mut child = Command::new(program)
+    use std::process::Stdio;
+    let mut child = second::remote::x86(program)
         .stdin(Stdio::piped())
         .stdout(Stdio::piped())
         .spawn()

@@ -1,0 +1,117 @@
+-- A line is read exactly where it is spelled: field by field, each read exactly where it is spelled.
+-- Assumes nothing.
+use mathlib.Core.Path.{_≡_, refl, sym, ap, _∙_}
+use mathlib.Core.List.{List, [], _∷_, _++_, append-assoc}
+use Prim.Native.Nat.{ℕ}
+use native.Mathlib.Omega.{arith}
+use Rattle.recipe.specs.declared.Row.{Row}
+use Rattle.text.specs.Bytes.{tab, newline}
+use Rattle.text.proofs.DigitLaws.{tab-no-digit, newline-no-digit}
+use Rattle.text.specs.Numbers.{spelled}
+use Rattle.sheet.specs.Form.{word, rowMark, rootMark, spelledRow, spelledRoot, Short, ShortRow}
+use Rattle.sheet.specs.Lines.{Field, holds, broken, textAt, kindAt, numberAt, noLine, rowLine, rootLine, wrongLine, rowAt, rootAt, lineAt}
+use Rattle.sheet.proofs.FieldForms.{text-read, kind-word, kind-small, kind-reads, number-read, number-reads}
+use Rattle.sheet.proofs.LineLaws.{no-kind, no-x, no-y, row-read, no-root, root-read, row-marked, root-marked, unmarked}
+
+-- What follows the mark of a row line.
+fields : Row → List ℕ → List ℕ
+fields row t = (word (row .kind) ++ (tab ∷ [])) ++ (spelled (row .x) ++ (tab ∷ (spelled (row .y) ++ (newline ∷ t))))
+
+row-line : (row : Row) (t : List ℕ) → spelledRow row ++ t ≡ 82 ∷ tab ∷ fields row t
+unfolding spelledRow fields
+row-line row t = simp append-assoc
+
+root-line : (root : ℕ) (t : List ℕ) → spelledRoot root ++ t ≡ 80 ∷ tab ∷ (spelled root ++ (newline ∷ t))
+unfolding spelledRoot
+root-line root t = simp append-assoc
+
+-- Spelled, hence read.
+pub row-line-reads : (row : Row) (t : List ℕ) → ShortRow row → lineAt (spelledRow row ++ t) ≡ rowLine row t
+unfolding lineAt textAt fields
+row-line-reads row t h =
+    ap lineAt (row-line row t)
+    ∙ sym
+    (row-read (fields row t) (row .kind) _ (sym (kind-reads (row .kind) _ (h .kind)))
+    (row .x) _ (sym (number-reads tab tab-no-digit (row .x) _ (h .x)))
+    (row .y) t (sym (number-reads newline newline-no-digit (row .y) t (h .y))))
+
+pub root-line-reads : (root : ℕ) (t : List ℕ) → Short root → lineAt (spelledRoot root ++ t) ≡ rootLine root t
+unfolding lineAt textAt
+root-line-reads root t h =
+    ap lineAt (root-line root t)
+    ∙ sym (root-read (spelled root ++ (newline ∷ t)) root t (sym (number-reads newline newline-no-digit root t h)))
+
+together :
+    (k x y : ℕ) (t : List ℕ)
+    → (word k ++ (tab ∷ [])) ++ (spelled x ++ (tab ∷ (spelled y ++ (newline ∷ t)))) ≡ fields (record { kind = k; x = x; y = y }) t
+unfolding fields
+together k x y t = refl
+
+-- Read, hence spelled.
+-- What follows a row's mark is a row's fields or is wrong.
+data RowFields (s : List ℕ) : Type 0 where
+  row-fields : (row : Row) (t : List ℕ) → s ≡ fields row t → ShortRow row → rowAt s ≡ rowLine row t → RowFields s
+  wrong-row : rowAt s ≡ wrongLine → RowFields s
+
+row-fields-of : (s : List ℕ) → RowFields s
+row-fields-of s = by-kind (kindAt s) refl
+  where
+    by-y :
+        (k x : ℕ) (s₁ s₂ : List ℕ) → holds k s₁ ≡ kindAt s → holds x s₂ ≡ numberAt tab s₁
+        → (f : Field) → numberAt newline s₂ ≡ f → RowFields s
+    by-y k x s₁ s₂ a b broken h = wrong-row (sym (no-y s k s₁ a x s₂ b (sym h)))
+    by-y k x s₁ s₂ a b (holds y t) h =
+        let px = number-read tab s₁ (sym b) in
+        let py = number-read newline s₂ h in
+        row-fields (record { kind = k; x = x; y = y }) t
+        (kind-word s a ∙ ap (_++_ (word k ++ (tab ∷ []))) (px .0 ∙ ap (λ (u : List ℕ). spelled x ++ (tab ∷ u)) (py .0)) ∙ together k x y t)
+        (record { kind = kind-small s a; x = omega (arith, px .1); y = omega (arith, py .1) })
+        (sym (row-read s k s₁ a x s₂ b y t (sym h)))
+
+    by-x : (k : ℕ) (s₁ : List ℕ) → holds k s₁ ≡ kindAt s → (f : Field) → numberAt tab s₁ ≡ f → RowFields s
+    by-x k s₁ a broken h = wrong-row (sym (no-x s k s₁ a (sym h)))
+    by-x k s₁ a (holds x s₂) h = by-y k x s₁ s₂ a (sym h) (numberAt newline s₂) refl
+
+    by-kind : (f : Field) → kindAt s ≡ f → RowFields s
+    by-kind broken h = wrong-row (sym (no-kind s (sym h)))
+    by-kind (holds k s₁) h = by-x k s₁ (sym h) (numberAt tab s₁) refl
+
+-- What follows a procedure's mark is its root or is wrong.
+data RootField (s : List ℕ) : Type 0 where
+  root-field : (root : ℕ) (t : List ℕ) → s ≡ spelled root ++ (newline ∷ t) → Short root → rootAt s ≡ rootLine root t → RootField s
+  wrong-root : rootAt s ≡ wrongLine → RootField s
+
+root-field-of : (s : List ℕ) → RootField s
+root-field-of s = by-root (numberAt newline s) refl
+  where
+    by-root : (f : Field) → numberAt newline s ≡ f → RootField s
+    by-root broken h = wrong-root (sym (no-root s (sym h)))
+    by-root (holds root t) h =
+        let p = number-read newline s h in root-field root t (p .0) (omega (arith, p .1)) (sym (root-read s root t (sym h)))
+
+-- What stands at the front: nothing, a row or a root as it is spelled, or a wrong line.
+pub data Front (s : List ℕ) : Type 0 where
+  nothing : s ≡ [] → lineAt s ≡ noLine → Front s
+  a-row : (row : Row) (t : List ℕ) → s ≡ spelledRow row ++ t → ShortRow row → lineAt s ≡ rowLine row t → Front s
+  a-root : (root : ℕ) (t : List ℕ) → s ≡ spelledRoot root ++ t → Short root → lineAt s ≡ rootLine root t → Front s
+  wrong : lineAt s ≡ wrongLine → Front s
+
+pub front : (s : List ℕ) → Front s
+unfolding lineAt
+front [] = nothing refl refl
+front (b ∷ s) = by-mark (textAt rowMark 0 (b ∷ s)) refl (textAt rootMark 0 (b ∷ s)) refl
+  where
+    by-row : (t : List ℕ) → b ∷ s ≡ rowMark ++ t → lineAt (b ∷ s) ≡ rowAt t → RowFields t → Front (b ∷ s)
+    by-row t e l (row-fields row u f h g) = a-row row u (e ∙ ap (_++_ rowMark) f ∙ sym (row-line row u)) h (l ∙ g)
+    by-row t e l (wrong-row g) = wrong (l ∙ g)
+
+    by-root : (t : List ℕ) → b ∷ s ≡ rootMark ++ t → lineAt (b ∷ s) ≡ rootAt t → RootField t → Front (b ∷ s)
+    by-root t e l (root-field root u f h g) = a-root root u (e ∙ ap (_++_ rootMark) f ∙ sym (root-line root u)) h (l ∙ g)
+    by-root t e l (wrong-root g) = wrong (l ∙ g)
+
+    by-mark : (f : Field) → textAt rowMark 0 (b ∷ s) ≡ f → (g : Field) → textAt rootMark 0 (b ∷ s) ≡ g → Front (b ∷ s)
+    by-mark (holds n t) h g k =
+        by-row t (text-read rowMark 0 (b ∷ s) h .1) (sym (row-marked b s (sym h))) (row-fields-of t)
+    by-mark broken h (holds n t) k =
+        by-root t (text-read rootMark 0 (b ∷ s) k .1) (sym (root-marked b s (sym h) (sym k))) (root-field-of t)
+    by-mark broken h broken k = wrong (sym (unmarked b s (sym h) (sym k)))

@@ -1,0 +1,16 @@
+-- A number in decimal: its digits as bytes, the highest first, and no leading zero save 0 itself.
+use mathlib.Core.Bool.{true, false}
+use mathlib.Core.List.{List, [], _∷_, _++_}
+use Prim.Native.Nat.{ℕ, zero, suc, _/_, _%_}
+use lib.Dec.{ltb}
+use Rattle.text.specs.Bytes.{digit}
+
+-- The digits of n, given that it has at most this many.
+unfoldable pub spelledIn : ℕ → ℕ → List ℕ
+spelledIn zero n = []
+spelledIn (suc most) n =
+    elim (ltb n 10) [ true ↦ digit n ∷ [] | false ↦ spelledIn most (n / 10) ++ (digit (n % 10) ∷ []) ]
+
+-- The digits of n, of which there are no more than n + 1.
+unfoldable pub spelled : ℕ → List ℕ
+spelled n = spelledIn (suc n) n

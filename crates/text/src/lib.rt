@@ -1,0 +1,1 @@
+// How numbers and lines are written as bytes: definitions and laws, no code.
