@@ -2,6 +2,10 @@
 //! optimised Rust version of the same work, on the same inputs.
 //!
 //!   cargo run --release --bin bench        (in tests/second)
+//!   cargo run --release --bin bench -- --sheets DIR
+//!
+//! The second form times nothing: it writes the sheets of the inputs into a
+//! folder, for bench/emulated.c.
 //!
 //! Needs BUSHKALOTE_PANEL, the folder of libpanel.a, at build time; without it
 //! only the Rust version is timed. Each time is the best of several batches,
@@ -15,6 +19,7 @@ use second::dice::Dice;
 use second::panel::Panel;
 use second::{gen, samples, sheet, Table, LABELS, LISTING_BYTES, PROCEDURES, ROWS};
 use std::hint::black_box;
+use std::path::Path;
 use std::process::ExitCode;
 use std::time::Instant;
 use straight::Straight;
@@ -109,19 +114,64 @@ fn generated(rows: usize, procedures: usize) -> Table {
     gen::of_size(&mut Dice::new(7), rows, procedures)
 }
 
+/// What is timed: a recipe, its name, and that of its sheet's file.
+struct Input {
+    file: &'static str,
+    name: &'static str,
+    table: Table,
+}
+
+fn inputs() -> [Input; 4] {
+    [
+        Input {
+            file: "flat.sheet",
+            name: "1,024 rows, 64 procedures, 2 rounds",
+            table: samples::large_flat(),
+        },
+        Input {
+            file: "generated.sheet",
+            name: "1,024 rows, 64 procedures, generated",
+            table: generated(ROWS, PROCEDURES),
+        },
+        Input {
+            file: "ring.sheet",
+            name: "1,024 rows, 64 procedures, 192 rounds",
+            table: samples::large_ring(),
+        },
+        Input {
+            file: "figure.sheet",
+            name: "figure 1, third program, n = 62",
+            table: samples::figure_third(62),
+        },
+    ]
+}
+
+/// Writes the sheet of each input into a folder.
+fn write_sheets(folder: &str) -> ExitCode {
+    for input in inputs() {
+        let path = Path::new(folder).join(input.file);
+        if let Err(why) = std::fs::write(&path, sheet::spell(&input.table)) {
+            eprintln!("bench: {}: {why}", path.display());
+            return ExitCode::from(2);
+        }
+        println!("{}: {}", input.file, input.name);
+    }
+    ExitCode::SUCCESS
+}
+
 fn main() -> ExitCode {
-    let inputs = [
-        ("1,024 rows, 64 procedures, 2 rounds", samples::large_flat()),
-        (
-            "1,024 rows, 64 procedures, generated",
-            generated(ROWS, PROCEDURES),
-        ),
-        (
-            "1,024 rows, 64 procedures, 192 rounds",
-            samples::large_ring(),
-        ),
-        ("figure 1, third program, n = 62", samples::figure_third(62)),
-    ];
+    let arguments: Vec<String> = std::env::args().skip(1).collect();
+    match arguments.as_slice() {
+        [] => time(),
+        [option, folder] if option == "--sheets" => write_sheets(folder),
+        _ => {
+            eprintln!("usage: bench [--sheets DIR]");
+            ExitCode::from(2)
+        }
+    }
+}
+
+fn time() -> ExitCode {
     let library = library();
     if library.is_none() {
         println!("library not run: BUSHKALOTE_PANEL (the folder of libpanel.a) was not set at build time");
@@ -130,7 +180,7 @@ fn main() -> ExitCode {
         "{:<40} {:<11} {:>12} {:>12} {:>8}",
         "input", "entry", "library ns", "Rust ns", "ratio"
     );
-    for (name, table) in &inputs {
+    for Input { name, table, .. } in &inputs() {
         let bytes = sheet::spell(table);
         let mut versions: Vec<&dyn Panel> = vec![&Straight];
         versions.extend(library.as_deref());

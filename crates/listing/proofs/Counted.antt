@@ -1,0 +1,63 @@
+-- The count is the number of pair lines: a pair is listed once if it is marked at or above the diagonal, and not at all if it is not.
+-- Assumes nothing.
+use mathlib.Core.Path.{_≡_, refl, sym, ap, _∙_}
+use mathlib.Core.Bool.{Bool, true, false, cond, _&&_}
+use mathlib.Core.List.{List, [], _∷_}
+use Prim.Native.Nat.{ℕ, zero, suc, _+_, _*_, _≤_, _<_}
+use native.Mathlib.Nat.{le-refl, zero-mul}
+use native.Mathlib.Omega.{arith}
+use lib.Dec.{eqb, leb}
+use lib.ListN.{length, length-append}
+use Rattle.labels.specs.Words.{oneIf, sumBelow}
+use Rattle.labels.specs.Sets.{ceiling, member}
+use Rattle.labels.specs.Matrix.{partners, marked, pairsAtOrAbove}
+use Rattle.labels.proofs.SetLaws.{member-lt}
+use Rattle.labels.proofs.MatrixLaws.{marked-lt}
+use Rattle.labels.proofs.SumLaws.{sum-alike}
+use Rattle.listing.specs.Pairs.{Pair, inTurn, pairAt, pairs}
+
+length-in-turn : (n : ℕ) (f : ℕ → List Pair) → length (inTurn n f) ≡ sumBelow n (λ k. length (f k))
+unfolding inTurn sumBelow
+length-in-turn zero f = refl
+length-in-turn (suc n) f =
+    length-append (inTurn n f) (f n) ∙ ap (λ (x : ℕ). x + length (f n)) (length-in-turn n f)
+
+one-or-none : (p : Pair) (t : Bool) (x : ℕ) → x < 2 → length (cond {A = List Pair} (t && eqb x 1) (p ∷ []) []) ≡ oneIf t * x
+one-or-none p true zero h = refl
+one-or-none p true (suc zero) h = refl
+one-or-none p true (suc (suc x)) h = absurd (omega arith)
+one-or-none p false x h = sym (zero-mul x)
+
+pub count-is-lines : (w : ℕ) (m : List ℕ) → pairsAtOrAbove w m ≡ length (pairs w m)
+unfolding pairsAtOrAbove marked pairAt
+count-is-lines w m =
+    sym
+    (length-in-turn (ceiling w) (λ i. inTurn (ceiling w) (pairAt (partners w m i) i))
+    ∙ sum-alike (ceiling w) _ _
+    (λ i h. length-in-turn (ceiling w) (pairAt (partners w m i) i)
+    ∙ sum-alike (ceiling w) _ _ (λ j l. one-or-none (i, j) (leb i j) (member (partners w m i) j) (member-lt (partners w m i) j))))
+
+pub sum-monotone : (n : ℕ) (f g : ℕ → ℕ) → ((k : ℕ) → k < n → f k ≤ g k) → sumBelow n f ≤ sumBelow n g
+unfolding sumBelow
+sum-monotone zero f g h = le-refl 0
+sum-monotone (suc n) f g h =
+    let earlier : sumBelow n f ≤ sumBelow n g = sum-monotone n f g (λ k l. h k (omega arith)) in
+    let last : f n ≤ g n = h n (le-refl (suc n)) in
+    omega arith
+
+at-most : (t : Bool) (x : ℕ) → x < 2 → oneIf t * x ≤ oneIf t
+at-most true x h = omega arith
+at-most false x h = omega (arith, zero-mul x)
+
+-- all labels meet all: one pair for each two labels and for each label with itself
+every-pair : sumBelow (ceiling 1) (λ i. sumBelow (ceiling 1) (λ j. oneIf (leb i j))) ≡ 2080
+unfolding sumBelow
+every-pair = refl
+
+pub pairs-few : (m : List ℕ) → pairsAtOrAbove 1 m ≤ 2080
+unfolding pairsAtOrAbove
+pairs-few m =
+    rw (sym every-pair)
+    (sum-monotone (ceiling 1) (λ i. sumBelow (ceiling 1) (λ j. oneIf (leb i j) * marked 1 m i j)) (λ i. sumBelow (ceiling 1) (λ j. oneIf (leb i j)))
+    (λ i h. sum-monotone (ceiling 1) (λ j. oneIf (leb i j) * marked 1 m i j) (λ j. oneIf (leb i j))
+    (λ j l. at-most (leb i j) (marked 1 m i j) (marked-lt 1 m i j))))

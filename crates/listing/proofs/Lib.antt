@@ -1,0 +1,10 @@
+pub mod PutLaws
+pub mod LineLaws
+pub mod PairLaws
+pub mod ReplyLaws
+pub mod Counted
+pub mod LineCounts
+pub mod Sizes
+pub mod Ordered
+pub mod Unique
+mod Examples

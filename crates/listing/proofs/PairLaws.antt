@@ -1,0 +1,149 @@
+-- The lines of the pairs, label by label: a pair's line is there if it is marked, and below its own label no label has a pair.
+-- Assumes nothing.
+use mathlib.Core.Path.{_≡_, refl, sym, ap, ap₂, _∙_}
+use mathlib.Core.Bool.{Bool, true, false, cond, _&&_}
+use mathlib.Core.List.{List, [], _∷_, _++_}
+use Prim.Native.Nat.{ℕ, zero, suc, _+_, _≤_, _<_}
+use native.Mathlib.Nat.{le-refl, not-suc-le-zero, mul-one}
+use native.Mathlib.Decide.{decLt}
+use native.Mathlib.Numerals.{add-one}
+use native.Mathlib.Omega.{arith}
+use borrow.Author.Tests.{le-leb, lt-leb}
+use lib.Dec.{eqb, leb}
+use lib.ListN.{length, getD, take, drop, length-append}
+use lib.Seq.{drop-cons}
+use Rattle.labels.specs.Words.{sumBelow}
+use Rattle.labels.specs.Sets.{member}
+use Rattle.labels.specs.Matrix.{partners}
+use Rattle.listing.specs.Pairs.{Pair, inTurn, pairAt, pairsOf}
+use Rattle.listing.specs.Listing.{pairLine, lines}
+use Rattle.listing.specs.Writing.{Room, Put}
+use Rattle.listing.proofs.PutLaws.{put-nothing, put-behind, put-keeps}
+use Rattle.listing.proofs.LineLaws.{lines-append, lines-one}
+
+-- ---- one pair
+
+pair-by-tests :
+    (s : List ℕ) (i j : ℕ) (a b : Bool) → leb i j ≡ a → eqb (member s j) 1 ≡ b → pairAt s i j ≡ cond (a && b) ((i, j) ∷ []) []
+unfolding pairAt
+pair-by-tests s i j a b e f = ap₂ (λ (x y : Bool). cond {A = List Pair} (x && y) ((i, j) ∷ []) []) e f
+
+pub line-of-marked : (s : List ℕ) (i j : ℕ) → i ≤ j → eqb (member s j) 1 ≡ true → lines (pairAt s i j) ≡ pairLine i j
+line-of-marked s i j h e = ap lines (pair-by-tests s i j true true (le-leb i j h) e) ∙ lines-one i j
+
+pub no-line-of-unmarked : (s : List ℕ) (i j : ℕ) → i ≤ j → eqb (member s j) 1 ≡ false → lines (pairAt s i j) ≡ []
+unfolding lines
+no-line-of-unmarked s i j h e = ap lines (pair-by-tests s i j true false (le-leb i j h) e)
+
+pub no-pair-below : (s : List ℕ) (i j : ℕ) → j < i → pairAt s i j ≡ []
+no-pair-below s i j h = pair-by-tests s i j false (eqb (member s j) 1) (lt-leb i j h) refl
+
+-- ---- lists of pairs in turn
+
+pub none-in-turn : (n : ℕ) (f : ℕ → List Pair) → ((k : ℕ) → k < n → f k ≡ []) → inTurn n f ≡ []
+unfolding inTurn
+none-in-turn zero f e = refl
+none-in-turn (suc n) f e = ap₂ _++_ (none-in-turn n f (λ k h. e k (omega arith))) (e n (le-refl (suc n)))
+
+pub same-in-turn : (n : ℕ) (f g : ℕ → List Pair) → ((k : ℕ) → k < n → f k ≡ g k) → inTurn n f ≡ inTurn n g
+unfolding inTurn
+same-in-turn zero f g e = refl
+same-in-turn (suc n) f g e = ap₂ _++_ (same-in-turn n f g (λ k h. e k (omega arith))) (e n (le-refl (suc n)))
+
+module _ (f : ℕ → List Pair) where
+  abbrev pub linesBelow : ℕ → List ℕ
+  linesBelow n = lines (inTurn n f)
+
+  pub lines-none : linesBelow 0 ≡ []
+  unfolding lines inTurn
+  lines-none = refl
+
+  pub lines-more : (n : ℕ) → linesBelow (suc n) ≡ linesBelow n ++ lines (f n)
+  unfolding inTurn
+  lines-more n = lines-append (inTurn n f) (f n)
+
+  pub bytes-more : (n : ℕ) → length (linesBelow (suc n)) ≡ length (linesBelow n) + length (lines (f n))
+  bytes-more n = ap length (lines-more n) ∙ length-append (linesBelow n) (lines (f n))
+
+  pub bytes-in-turn : (n : ℕ) → length (linesBelow n) ≡ sumBelow n (λ k. length (lines (f k)))
+  unfolding sumBelow
+  bytes-in-turn zero = ap length lines-none
+  bytes-in-turn (suc n) = bytes-more n ∙ ap (λ (x : ℕ). x + length (lines (f n))) (bytes-in-turn n)
+
+  pub bytes-within : (n k : ℕ) → k < n → length (linesBelow k) + length (lines (f k)) ≤ length (linesBelow n)
+  bytes-within zero k h = absurd (not-suc-le-zero h)
+  bytes-within (suc n) k h = by-order (decLt k n) (bytes-within n k)
+    where
+      by-order :
+          Dec (k < n) → (k < n → length (linesBelow k) + length (lines (f k)) ≤ length (linesBelow n))
+          → length (linesBelow k) + length (lines (f k)) ≤ length (linesBelow (suc n))
+      by-order (yes l) earlier = omega (arith, earlier l, bytes-more n)
+      by-order (no l) earlier =
+          let last : k ≡ n = omega arith in
+          rw (last) (omega (arith, bytes-more n))
+
+-- ---- a loop that writes the lines of f 0, f 1, .. up to and without f n
+
+pub record Writing (n : ℕ) (f : ℕ → List Pair) (old : List ℕ) (at : ℕ) (new : List ℕ) (next k : ℕ) : Type 0 where
+  pub passed : k ≤ n
+  pub put : Put old at (linesBelow f k) new next
+  pub size : length new ≡ length old
+
+module _ {n : ℕ} {f : ℕ → List Pair} {old : List ℕ} {at : ℕ} where
+  pub begins : (k : ℕ) → k ≤ n → ((j : ℕ) → j < k → f j ≡ []) → Writing n f old at old at k
+  unfolding lines
+  begins k h e =
+      record {
+        passed = h;
+        put = rw (none-in-turn k f e) (put-nothing old at);
+        size = refl;
+      }
+
+  pub room : {new : List ℕ} {next k : ℕ} → Room old at (linesBelow f n) → Writing n f old at new next k → k < n → Room new next (lines (f k))
+  room {new} {next} {k} r w h = omega (arith, bytes-within f n k h, w .put .place, w .size)
+
+  pub goes-on :
+      {new new' : List ℕ} {next next' k : ℕ} → Writing n f old at new next k → k < n → Put new next (lines (f k)) new' next'
+      → Writing n f old at new' next' (k + 1)
+  goes-on {new} {new'} {next} {next'} {k} w h p =
+      let both = put-behind (w .put) p in
+      record {
+        passed = omega arith;
+        put = rw (add-one k, lines-more f k) both;
+        size = put-keeps both;
+      }
+
+  pub ends : {new : List ℕ} {next k : ℕ} → Writing n f old at new next k → n ≤ k → Put old at (linesBelow f n) new next
+  ends {new} {next} {k} w h = let done : k ≡ n = omega arith in rw done at (w .put)
+
+-- ---- a loop that sums their lengths
+
+pub record Summing (n : ℕ) (f : ℕ → List Pair) (sum k : ℕ) : Type 0 where
+  pub passed : k ≤ n
+  pub total : sum ≡ length (linesBelow f k)
+
+module _ {n : ℕ} {f : ℕ → List Pair} where
+  pub sum-begins : (k : ℕ) → k ≤ n → ((j : ℕ) → j < k → f j ≡ []) → Summing n f 0 k
+  unfolding lines
+  sum-begins k h e = record { passed = h; total = ap (λ (x : List Pair). length (lines x)) (sym (none-in-turn k f e)) }
+
+  pub sum-goes-on :
+      {sum k b : ℕ} → Summing n f sum k → k < n → b ≡ length (lines (f k)) → Summing n f (sum + b) (k + 1)
+  sum-goes-on {sum} {k} {b} s h e =
+      record {
+        passed = omega arith;
+        total = ap₂ _+_ (s .total) e ∙ sym (ap (λ (x : ℕ). length (linesBelow f x)) (add-one k) ∙ bytes-more f k);
+      }
+
+  pub sum-ends : {sum k : ℕ} → Summing n f sum k → n ≤ k → sum ≡ length (linesBelow f n)
+  sum-ends {sum} {k} s h =
+      let done : k ≡ n = omega arith in s .total ∙ ap (λ (x : ℕ). length (linesBelow f x)) done
+
+-- ---- one word a label
+
+partners-one : (m : List ℕ) (i : ℕ) → i < length m → partners 1 m i ≡ getD m i 0 ∷ []
+partners-one m i h =
+    ap (λ (k : ℕ). take 1 (drop k m)) (mul-one i) ∙ ap (take 1) (drop-cons m i 0 h)
+
+pub row-one : (m : List ℕ) (i : ℕ) → i < length m → lines (pairsOf 1 (partners 1 m i) i) ≡ lines (pairsOf 1 (getD m i 0 ∷ []) i)
+row-one m i h = ap (λ (s : List ℕ). lines (pairsOf 1 s i)) (partners-one m i h)

@@ -1,0 +1,66 @@
+-- `pairs_length` meets its contract: each turn adds the lines of the next label's pairs.
+-- Assumes nothing.
+use mathlib.Core.Path.{sym, ap, _∙_}
+use Prim.Native.Nat.{_*_, _-_, _≤_}
+use denote.Ref.{now}
+use lib.ListN.{length}
+use native.Mathlib.Omega.{arith}
+use Rattle.labels.specs.Sets.{ceiling}
+use Rattle.labels.specs.Matrix.{partners}
+use Rattle.listing.specs.Pairs.{pairsOf}
+use Rattle.listing.proofs.PairLaws.{Summing, sum-begins, sum-goes-on, sum-ends, row-one}
+use Rattle.listing.proofs.lines.pairs_length.Statement.{statement}
+use Rattle.listing.proofs.lines.pairs_length.Tie as tie
+
+abbrev Inv-loop : tie.InvT-loop
+Inv-loop matrix sum₀ i₀ sum i = Summing (ceiling 1) (λ k. pairsOf 1 (partners 1 matrix k) k) sum i × (sum ≤ 42 * ceiling 1 * i)
+
+abbrev μ-loop : tie.MeasureT-loop
+μ-loop matrix sum₀ i₀ sum i = ceiling 1 - i
+
+loop-holds : tie.Need-loop-holds Inv-loop μ-loop
+loop-holds c = (sum-begins 0 (omega arith) (λ j h. absurd (omega arith)), omega arith)
+
+mul-row-length : tie.Need-mul-row-length Inv-loop μ-loop
+mul-row-length c = omega arith
+
+shared-slice-read-row-length : tie.Need-shared-slice-read-row-length Inv-loop μ-loop
+shared-slice-read-row-length c = omega arith
+
+row-length-requires : tie.Need-row-length-requires Inv-loop μ-loop
+row-length-requires c κs = omega arith
+
+add-sum : tie.Need-add-sum Inv-loop μ-loop
+add-sum c = omega (arith, c .before .before .before .loop .inv .0 .passed)
+
+add-i : tie.Need-add-i Inv-loop μ-loop
+add-i c = omega arith
+
+loop-less : tie.Need-loop-less Inv-loop μ-loop
+loop-less c = omega arith
+
+loop-again : tie.Need-loop-again Inv-loop μ-loop
+loop-again c =
+    let l = c .before .before .before .loop in
+    let s = c .before .before .before .before .before in
+    let h = c .before .before .loop-test .taken in
+    (sum-goes-on (l .inv .0) h (c .row-length .ensures .0 ∙ ap length (sym (row-one (now (s .args .matrix)) (l .i) (omega arith)))), omega arith)
+
+returns : tie.Need-returns Inv-loop μ-loop
+returns c = (sum-ends (c .before .loop .inv .0) (c .loop-test .left), omega (arith, c .before .loop .inv .0 .passed))
+
+pub pairs-length-spec : {M : Type 1} → statement M
+pairs-length-spec =
+    tie.close
+    (tie.spec
+    Inv-loop
+    μ-loop
+    loop-holds
+    mul-row-length
+    shared-slice-read-row-length
+    row-length-requires
+    add-sum
+    add-i
+    loop-less
+    loop-again
+    returns)

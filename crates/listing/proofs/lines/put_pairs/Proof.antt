@@ -1,0 +1,68 @@
+-- `put_pairs` meets its contract: each turn writes the lines of the next label's pairs behind those of the labels before.
+-- Assumes nothing.
+use Prim.Native.Nat.{_-_}
+use denote.Ref.{now}
+use native.Mathlib.Omega.{arith}
+use Rattle.labels.specs.Sets.{ceiling}
+use Rattle.labels.specs.Matrix.{partners}
+use Rattle.listing.specs.Pairs.{pairsOf}
+use Rattle.listing.proofs.PairLaws.{Writing, begins, room, goes-on, ends, row-one}
+use Rattle.listing.proofs.lines.put_pairs.Statement.{statement}
+use Rattle.listing.proofs.lines.put_pairs.Tie as tie
+
+abbrev Inv-loop : tie.InvT-loop
+Inv-loop bytes₀ at matrix next₀ i₀ bytes next i = Writing (ceiling 1) (λ k. pairsOf 1 (partners 1 matrix k) k) bytes₀ at bytes next i
+
+abbrev μ-loop : tie.MeasureT-loop
+μ-loop bytes₀ at matrix next₀ i₀ bytes next i = ceiling 1 - i
+
+loop-holds : tie.Need-loop-holds Inv-loop μ-loop
+loop-holds c = begins 0 (omega arith) (λ j h. absurd (omega arith))
+
+mul-put-row : tie.Need-mul-put-row Inv-loop μ-loop
+mul-put-row c = omega arith
+
+shared-slice-read-put-row : tie.Need-shared-slice-read-put-row Inv-loop μ-loop
+shared-slice-read-put-row c = omega arith
+
+put-row-requires : tie.Need-put-row-requires Inv-loop μ-loop
+put-row-requires c κs =
+    let l = c .before .before .before .loop in
+    let s = c .before .before .before .before .before .before in
+    let h = c .before .before .loop-test .taken in
+    (h, rw (row-one (now (s .args .matrix)) (l .i) (omega arith)) at (room (s .pre .1) (l .inv) h))
+
+add-i : tie.Need-add-i Inv-loop μ-loop
+add-i c = omega arith
+
+loop-less : tie.Need-loop-less Inv-loop μ-loop
+loop-less c = omega arith
+
+loop-again : tie.Need-loop-again Inv-loop μ-loop
+loop-again c =
+    let l = c .before .before .before .before .before .before .loop in
+    let s = c .before .before .before .before .before .before .before .before .before in
+    let h = c .before .before .before .before .before .loop-test .taken in
+    goes-on (l .inv) h (rw (row-one (now (s .args .matrix)) (l .i) (omega arith)) (c .before .before .put-row .ensures))
+
+same-length : tie.Need-same-length Inv-loop μ-loop
+same-length c = c .before .loop .inv .size
+
+returns : tie.Need-returns Inv-loop μ-loop
+returns c = ends (c .before .loop .inv) (c .loop-test .left)
+
+pub put-pairs-spec : {M : Type 1} → statement M
+put-pairs-spec =
+    tie.close
+    (tie.spec
+    Inv-loop
+    μ-loop
+    loop-holds
+    mul-put-row
+    shared-slice-read-put-row
+    put-row-requires
+    add-i
+    loop-less
+    loop-again
+    same-length
+    returns)

@@ -1,0 +1,56 @@
+-- `row_length` meets its contract: below its own label a label has no pair, and each turn adds the line of the next pair, if it is marked.
+-- Assumes nothing.
+use native.Mathlib.Nat.{le-refl}
+use mathlib.Core.List.{[], _∷_}
+use Prim.Native.Nat.{_*_, _-_, _≤_}
+use native.Mathlib.Omega.{arith}
+use Rattle.labels.specs.Sets.{ceiling}
+use Rattle.labels.specs.Matrix.{partners}
+use Rattle.listing.specs.Pairs.{pairAt}
+use Rattle.listing.proofs.PairLaws.{Summing, sum-begins, sum-goes-on, sum-ends, no-pair-below}
+use Rattle.listing.proofs.lines.row_length.Statement.{statement}
+use Rattle.listing.proofs.lines.row_length.Tie as tie
+
+abbrev Inv-loop : tie.InvT-loop
+Inv-loop partners i sum₀ j₀ sum j = (i ≤ j) × Summing (ceiling 1) (pairAt (partners ∷ []) i) sum j × (sum ≤ 42 * j)
+
+abbrev μ-loop : tie.MeasureT-loop
+μ-loop partners i sum₀ j₀ sum j = ceiling 1 - j
+
+loop-holds : tie.Need-loop-holds Inv-loop μ-loop
+loop-holds c =
+    let a = c .args in (le-refl (a .i), sum-begins (a .i) (omega arith) (λ j h. no-pair-below (a .partners ∷ []) (a .i) j h), omega arith)
+
+pair-length-requires : tie.Need-pair-length-requires Inv-loop μ-loop
+pair-length-requires c κs = (c .before .loop .inv .0, c .loop-test .taken)
+
+add-sum : tie.Need-add-sum Inv-loop μ-loop
+add-sum c = omega (arith, c .before .before .loop .inv .1 .passed)
+
+add-j : tie.Need-add-j Inv-loop μ-loop
+add-j c = omega arith
+
+loop-less : tie.Need-loop-less Inv-loop μ-loop
+loop-less c = omega arith
+
+loop-again : tie.Need-loop-again Inv-loop μ-loop
+loop-again c =
+    let l = c .before .before .loop in
+    (omega arith, sum-goes-on (l .inv .1) (c .before .loop-test .taken) (c .pair-length .ensures .0), omega arith)
+
+returns : tie.Need-returns Inv-loop μ-loop
+returns c = (sum-ends (c .before .loop .inv .1) (c .loop-test .left), omega (arith, c .before .loop .inv .1 .passed))
+
+pub row-length-spec : {M : Type 1} → statement M
+row-length-spec =
+    tie.close
+    (tie.spec
+    Inv-loop
+    μ-loop
+    loop-holds
+    pair-length-requires
+    add-sum
+    add-j
+    loop-less
+    loop-again
+    returns)

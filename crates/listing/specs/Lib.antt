@@ -1,0 +1,5 @@
+pub mod Pairs
+pub mod Order
+pub mod Listing
+pub mod Replies
+pub mod Writing

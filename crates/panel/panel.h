@@ -1,0 +1,117 @@
+/*
+ * The recipe tool for a panel's firmware: the three entries of libpanel.a.
+ *
+ * A slice is handed over as a pointer and a length, the length in elements,
+ * not in bytes. A pointer is never null, also where the length is 0, and is
+ * aligned for its element. What is written must not overlap any other slice.
+ * Nothing is kept after the call. The analysis recurses as deep as the recipe
+ * is nested, up to 1,024 rows, and needs stack for it.
+ *
+ * A recipe is three slices of equal length, one element a row, and the roots:
+ *
+ *   kind  word    x                  y
+ *   0     skip    0                  0
+ *   1     step    label, 0 to 63     0
+ *   2     seq     first child row    second child row
+ *   3     loop    child row          0
+ *   4     async   child row          0
+ *   5     finish  child row          0
+ *   6     call    procedure number   0
+ *
+ * A row stands after its children, has one single user (the row that it is a
+ * child of, or the procedure that it is the root of), and main comes first
+ * among the roots.
+ *
+ * Every reply is one number: a refusal's number times 2^32, plus a value.
+ * Number 0 is success. For a refusal the value is a place, counted from 0:
+ *
+ *   number  meaning                                            value
+ *   1       kinds, xs and ys of unequal length, or the rows    0
+ *           not 1 to 1,024, or the procedures not 1 to 64
+ *   2       matrix_len is below 64                             0
+ *   3       an unknown kind, 7 or higher                       first such row
+ *   4       an operand that its kind does not allow            first such row
+ *   5       a root past the last row                           first such procedure
+ *   6       a row with two users or more                       first such row
+ *   7       a row without a user                               first such row
+ *   11      bytes_len of a sheet is above 65,536               0
+ *   12      a malformed line                                   its line
+ *   13      no room for the row or procedure of a line, or     its line
+ *           the ceiling is reached
+ *   14      bytes_len is too small for the listing             0
+ *
+ * 1 to 7 are tried one after the other, each over the whole recipe. A refused
+ * call writes nothing.
+ */
+#ifndef BUSHKALOTE_PANEL_H
+#define BUSHKALOTE_PANEL_H
+
+#include <stddef.h>
+#include <stdint.h>
+
+#ifdef __cplusplus
+extern "C" {
+#endif
+
+/* The most of everything; storage of these lengths is always enough. */
+#define BUSHKALOTE_ROWS 1024
+#define BUSHKALOTE_PROCEDURES 64
+#define BUSHKALOTE_LABELS 64
+#define BUSHKALOTE_SHEET_BYTES 65536
+#define BUSHKALOTE_LISTING_BYTES 11858
+
+/* The two halves of a reply. */
+#define BUSHKALOTE_NUMBER(reply) ((uint32_t)((uint64_t)(reply) >> 32))
+#define BUSHKALOTE_VALUE(reply) ((uint32_t)((uint64_t)(reply) & 0xffffffffu))
+
+/* The two halves of the value that reading gives. */
+#define BUSHKALOTE_ROWS_READ(reply) (BUSHKALOTE_VALUE(reply) & 0xffffu)
+#define BUSHKALOTE_PROCEDURES_READ(reply) (BUSHKALOTE_VALUE(reply) >> 16)
+
+/*
+ * Judges a recipe and works out which labels may run in parallel.
+ * Refuses with 1 to 7. On success the value is the number of rounds, and bit j
+ * of matrix[i] is 1 exactly when labels i and j may run in parallel, for the
+ * first 64 words; words beyond are untouched. The recipe is never written.
+ */
+uint64_t bushkalote_analyse(
+    const uint8_t *kinds, size_t kinds_len,
+    const uint16_t *xs, size_t xs_len,
+    const uint16_t *ys, size_t ys_len,
+    const uint16_t *roots, size_t roots_len,
+    uint64_t *matrix, size_t matrix_len);
+
+/*
+ * Reads a sheet into lent storage; the room for rows is the shortest of kinds,
+ * xs and ys. Refuses with 11 to 13. On success the value is the number of rows
+ * plus 65,536 times the number of procedures; only so many elements are
+ * written. Operands are stored as they stand on the sheet; it is the analysis
+ * that judges them.
+ */
+uint64_t bushkalote_read_sheet(
+    const uint8_t *bytes, size_t bytes_len,
+    uint8_t *kinds, size_t kinds_len,
+    uint16_t *xs, size_t xs_len,
+    uint16_t *ys, size_t ys_len,
+    uint16_t *roots, size_t roots_len);
+
+/*
+ * Judges and works out a recipe and writes its listing into the lent bytes.
+ * Refuses with 1 to 7 and then with 14; the matrix, too, is only written on
+ * success. On success the value is the listing's length in bytes, the first 64
+ * words of the matrix are those of the analysis, and bytes beyond the listing
+ * are untouched. The listing is not ended by a zero byte.
+ */
+uint64_t bushkalote_list_pairs(
+    const uint8_t *kinds, size_t kinds_len,
+    const uint16_t *xs, size_t xs_len,
+    const uint16_t *ys, size_t ys_len,
+    const uint16_t *roots, size_t roots_len,
+    uint64_t *matrix, size_t matrix_len,
+    uint8_t *bytes, size_t bytes_len);
+
+#ifdef __cplusplus
+}
+#endif
+
+#endif

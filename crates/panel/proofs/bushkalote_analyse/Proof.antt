@@ -1,0 +1,23 @@
+-- `bushkalote_analyse` meets its contract: it hands on the analysis's reply as its code.
+-- Assumes nothing.
+use mathlib.Core.Path.{ap, _∙_}
+use Rattle.panel.specs.Codes.{analysedCode}
+use borrow.Author.Needs.{needs}
+use Rattle.panel.proofs.bushkalote_analyse.Statement.{statement}
+use Rattle.panel.proofs.bushkalote_analyse.Tie as tie
+
+analyse-requires : tie.Need-analyse-requires
+analyse-requires c κs = search needs
+
+analysed-code-requires : tie.Need-analysed-code-requires
+analysed-code-requires c κs = search needs
+
+same-length : tie.Need-same-length
+same-length c = search needs
+
+returns : tie.Need-returns
+returns c = (c .analysed-code .ensures ∙ ap analysedCode (c .before .before .before .analyse .ensures .0), c .before .before .before .analyse .ensures .1)
+
+pub bushkalote-analyse-spec : {M : Type 1} → statement M
+bushkalote-analyse-spec =
+    tie.close (tie.spec analyse-requires analysed-code-requires same-length returns)

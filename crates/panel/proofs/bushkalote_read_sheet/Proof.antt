@@ -1,0 +1,44 @@
+-- `bushkalote_read_sheet` meets its contract: it hands on the reader's reply as its code, and no reading passes the ceilings.
+-- Assumes nothing.
+use mathlib.Core.Path.{sym, ap, _∙_, subst}
+use denote.Ref.{now}
+use Rattle.panel.specs.Codes.{readCode, WithinCeilings}
+use Rattle.panel.proofs.CodeLaws.{reading-within}
+use borrow.Author.Needs.{needs}
+use Rattle.panel.proofs.bushkalote_read_sheet.Statement.{statement}
+use Rattle.panel.proofs.bushkalote_read_sheet.Tie as tie
+
+read-sheet-requires : tie.Need-read-sheet-requires
+read-sheet-requires c κs = search needs
+
+read-code-requires : tie.Need-read-code-requires
+read-code-requires c κs =
+    let a = c .before .before .before .before .before .before .before .before .before .before .before .before .before .before .before .before .before .before .args in
+    subst WithinCeilings (sym (c .before .before .before .before .before .before .before .before .read-sheet .ensures .0)) (reading-within (now (a .bytes)) (now (a .kinds)) (now (a .xs)) (now (a .ys)) (now (a .roots)))
+
+same-length : tie.Need-same-length
+same-length c = search needs
+
+same-length-2 : tie.Need-same-length-2
+same-length-2 c = search needs
+
+same-length-3 : tie.Need-same-length-3
+same-length-3 c = search needs
+
+same-length-4 : tie.Need-same-length-4
+same-length-4 c = search needs
+
+returns : tie.Need-returns
+returns c = (c .read-code .ensures ∙ ap readCode (c .before .before .before .before .before .before .before .before .before .read-sheet .ensures .0), c .before .before .before .before .before .before .before .before .before .read-sheet .ensures .1)
+
+pub bushkalote-read-sheet-spec : {M : Type 1} → statement M
+bushkalote-read-sheet-spec =
+    tie.close
+    (tie.spec
+    read-sheet-requires
+    read-code-requires
+    same-length
+    same-length-2
+    same-length-3
+    same-length-4
+    returns)

@@ -1,0 +1,41 @@
+-- `read_code` meets its contract: each case is its own code, and within the ceilings the numbers fit.
+-- Assumes nothing.
+use mathlib.Core.Path.{sym, ap, _∙_, subst}
+use Rattle.panel.specs.Codes.{readCode, WithinCeilings}
+use borrow.Author.Needs.{needs}
+use native.Mathlib.Omega.{arith}
+use Rattle.panel.proofs.read_code.Statement.{statement}
+use Rattle.panel.proofs.read_code.Tie as tie
+
+enum-known-reply : tie.Need-enum-known-reply
+enum-known-reply c = search needs
+
+mul-result : tie.Need-mul-result
+mul-result c = omega (arith, subst WithinCeilings (c .before .reply .given .1) (c .before .before .before .pre))
+
+add-result : tie.Need-add-result
+add-result c = omega (arith, subst WithinCeilings (c .before .reply .given .1) (c .before .before .before .pre))
+
+enum-known-reply-2 : tie.Need-enum-known-reply-2
+enum-known-reply-2 c = search needs
+
+refusal-code-requires : tie.Need-refusal-code-requires
+refusal-code-requires c κs = search needs
+
+returns : tie.Need-returns
+returns c = sym (ap readCode (c .before .reply .given .1))
+
+returns-2 : tie.Need-returns-2
+returns-2 c = c .refusal-code .ensures ∙ sym (ap readCode (c .before .before .reply2 .given .1))
+
+pub read-code-spec : {M : Type 1} → statement M
+read-code-spec =
+    tie.close
+    (tie.spec
+    enum-known-reply
+    mul-result
+    add-result
+    enum-known-reply-2
+    refusal-code-requires
+    returns
+    returns-2)

@@ -1,0 +1,100 @@
+// The way in from C: each entry on plain numbers and slices, a slice as a pointer and a length. A reply is one number (panel.h).
+ghost use mathlib.Core.Path.{_≡_};
+ghost use lib.ListN.{length};
+ghost use Rattle.recipe.specs.Tables.{tableOf};
+ghost use Rattle.analysis.specs.Replies.{analysed, matrixAfter};
+ghost use Rattle.sheet.specs.Reading.{readInto, rowsOf, rootsOf, replyOf, laid, kindsOf, xsOf, ysOf};
+ghost use Rattle.listing.specs.Replies.{listed, matrixListed, bytesListed};
+ghost use Rattle.panel.specs.Codes.{refusalCode, analysedCode, readCode, listedCode, WithinCeilings};
+use analysis::Analysed;
+use listing::Listed;
+use recipe::Refusal;
+use sheet::Read;
+
+// A refusal as one number.
+fn refusal_code(r: Refusal) -> u64
+    ensures { λ n. ⌜ n ≡ refusalCode r ⌝ }
+{
+    (r.number() as u64) * 4294967296 + (r.place() as u64)
+}
+
+// A reply of the analysis as one number.
+fn analysed_code(reply: Analysed) -> u64
+    ensures { λ n. ⌜ n ≡ analysedCode reply ⌝ }
+{
+    match reply {
+        Analysed::Rounds(k) => k as u64,
+        Analysed::Refused(r) => refusal_code(r),
+    }
+}
+
+// A reply of the reader as one number.
+fn read_code(reply: Read) -> u64
+    requires { ⌜ WithinCeilings reply ⌝ }
+    ensures { λ n. ⌜ n ≡ readCode reply ⌝ }
+{
+    match reply {
+        Read::Stored(rows, procs) => (rows as u64) + 65536 * (procs as u64),
+        Read::Refused(r) => refusal_code(r),
+    }
+}
+
+// A reply of the listing as one number.
+fn listed_code(reply: Listed) -> u64
+    ensures { λ n. ⌜ n ≡ listedCode reply ⌝ }
+{
+    match reply {
+        Listed::Length(n) => n as u64,
+        Listed::Refused(r) => refusal_code(r),
+    }
+}
+
+// The analysis, for a caller in C.
+#[no_mangle]
+pub extern "C" fn bushkalote_analyse(
+    kinds: &[u8],
+    xs: &[u16],
+    ys: &[u16],
+    roots: &[u16],
+    matrix: &mut [u64],
+) -> u64
+    ensures { λ n. ⌜ n ≡ analysedCode (analysed (tableOf (now (kinds .entry)) (now (xs .entry)) (now (ys .entry)) (now (roots .entry))) (length (now (matrix .entry)))) ⌝ }
+    ensures { λ _. ⌜ now (matrix .exit) ≡ matrixAfter (tableOf (now (kinds .entry)) (now (xs .entry)) (now (ys .entry)) (now (roots .entry))) (now (matrix .entry)) ⌝ }
+{
+    analysed_code(analysis::analyse(kinds, xs, ys, roots, matrix))
+}
+
+// The reader, for a caller in C.
+#[no_mangle]
+pub extern "C" fn bushkalote_read_sheet(
+    bytes: &[u8],
+    kinds: &mut [u8],
+    xs: &mut [u16],
+    ys: &mut [u16],
+    roots: &mut [u16],
+) -> u64
+    ensures { λ n. ⌜ n ≡ readCode (replyOf (readInto (now (bytes .entry)) (now (kinds .entry)) (now (xs .entry)) (now (ys .entry)) (now (roots .entry)))) ⌝ }
+    ensures { λ _. ⌜ now (kinds .exit) ≡ laid (kindsOf (rowsOf (readInto (now (bytes .entry)) (now (kinds .entry)) (now (xs .entry)) (now (ys .entry)) (now (roots .entry))))) (now (kinds .entry)) ⌝ }
+    ensures { λ _. ⌜ now (xs .exit) ≡ laid (xsOf (rowsOf (readInto (now (bytes .entry)) (now (kinds .entry)) (now (xs .entry)) (now (ys .entry)) (now (roots .entry))))) (now (xs .entry)) ⌝ }
+    ensures { λ _. ⌜ now (ys .exit) ≡ laid (ysOf (rowsOf (readInto (now (bytes .entry)) (now (kinds .entry)) (now (xs .entry)) (now (ys .entry)) (now (roots .entry))))) (now (ys .entry)) ⌝ }
+    ensures { λ _. ⌜ now (roots .exit) ≡ laid (rootsOf (readInto (now (bytes .entry)) (now (kinds .entry)) (now (xs .entry)) (now (ys .entry)) (now (roots .entry)))) (now (roots .entry)) ⌝ }
+{
+    read_code(sheet::read_sheet(bytes, kinds, xs, ys, roots))
+}
+
+// The listing, for a caller in C.
+#[no_mangle]
+pub extern "C" fn bushkalote_list_pairs(
+    kinds: &[u8],
+    xs: &[u16],
+    ys: &[u16],
+    roots: &[u16],
+    matrix: &mut [u64],
+    bytes: &mut [u8],
+) -> u64
+    ensures { λ n. ⌜ n ≡ listedCode (listed (tableOf (now (kinds .entry)) (now (xs .entry)) (now (ys .entry)) (now (roots .entry))) (length (now (matrix .entry))) (length (now (bytes .entry)))) ⌝ }
+    ensures { λ _. ⌜ now (matrix .exit) ≡ matrixListed (tableOf (now (kinds .entry)) (now (xs .entry)) (now (ys .entry)) (now (roots .entry))) (now (matrix .entry)) (length (now (bytes .entry))) ⌝ }
+    ensures { λ _. ⌜ now (bytes .exit) ≡ bytesListed (tableOf (now (kinds .entry)) (now (xs .entry)) (now (ys .entry)) (now (roots .entry))) (length (now (matrix .entry))) (now (bytes .entry)) ⌝ }
+{
+    listed_code(listing::list_pairs(kinds, xs, ys, roots, matrix, bytes))
+}

@@ -1,0 +1,97 @@
+-- `take_in` is safe and ends: each piece has at least one byte and no more than there is room for.
+-- Assumes nothing.
+use borrow.Author.Needs.{needs}
+use native.Mathlib.Omega.{arith}
+use mathlib.Core.Path.{_≡_, refl, _∙_, subst}
+use Prim.Native.Nat.{_-_, _≤_}
+use lib.ListN.{length}
+use Rattle.report.specs.Taking.{AtMost}
+use Rattle.report.proofs.take_in.Statement.{statement}
+use Rattle.report.proofs.take_in.Tie as tie
+
+abbrev Inv-loop : tie.InvT-loop
+Inv-loop buffer₀ done₀ buffer done = (done ≤ length buffer) × (length buffer ≡ length buffer₀)
+
+abbrev μ-loop : tie.MeasureT-loop
+μ-loop buffer₀ done₀ buffer done = length buffer₀ - done
+
+loop-holds : tie.Need-loop-holds Inv-loop μ-loop
+loop-holds c =
+    (omega arith, refl)
+
+more-requires : tie.Need-more-requires Inv-loop μ-loop
+more-requires c κs =
+    c .before .before .loop .inv .0
+
+enum-told : tie.Need-enum-told Inv-loop μ-loop
+enum-told c =
+    search needs
+
+same-length : tie.Need-same-length Inv-loop μ-loop
+same-length c =
+    c .before .before .before .before .more .kept .0 ∙ c .before .before .before .before .before .before .before .loop .inv .1
+
+returns : tie.Need-returns Inv-loop μ-loop
+returns c =
+    search needs
+
+enum-known-n : tie.Need-enum-known-n Inv-loop μ-loop
+enum-known-n c =
+    search needs
+
+same-length-2 : tie.Need-same-length-2 Inv-loop μ-loop
+same-length-2 c =
+    c .before .before .before .before .before .before .more .kept .0 ∙ c .before .before .before .before .before .before .before .before .before .loop .inv .1
+
+returns-2 : tie.Need-returns-2 Inv-loop μ-loop
+returns-2 c =
+    search needs
+
+add-done : tie.Need-add-done Inv-loop μ-loop
+add-done c =
+    let h = subst (AtMost _) (c .before .before .n .given .1) (c .before .before .before .before .before .before .more .ensures) in
+    let l = c .before .before .before .before .before .before .before .before .before .loop in
+    let k = c .before .before .before .before .before .before .more .kept .0 in
+    omega (arith, h, l .inv .0, c .before .before .before .before .before .before .before .before .before .before .before .good)
+
+loop-less : tie.Need-loop-less Inv-loop μ-loop
+loop-less c =
+    let h = subst (AtMost _) (c .before .before .n .given .1) (c .before .before .before .before .before .before .more .ensures) in
+    let l = c .before .before .before .before .before .before .before .before .before .loop in
+    let k = c .before .before .before .before .before .before .more .kept .0 in
+    omega (arith, h, l .inv .1, l .inv .0, c .if1 .left, c .before .before .before .before .before .before .before .before .loop-test .taken)
+
+loop-again : tie.Need-loop-again Inv-loop μ-loop
+loop-again c =
+    let h = subst (AtMost _) (c .before .before .n .given .1) (c .before .before .before .before .before .before .more .ensures) in
+    let l = c .before .before .before .before .before .before .before .before .before .loop in
+    let k = c .before .before .before .before .before .before .more .kept .0 in
+    (omega (arith, h, k, l .inv .0, c .before .before .before .before .before .before .before .before .loop-test .taken), k ∙ l .inv .1)
+
+same-length-3 : tie.Need-same-length-3 Inv-loop μ-loop
+same-length-3 c =
+    c .before .loop .inv .1
+
+returns-3 : tie.Need-returns-3 Inv-loop μ-loop
+returns-3 c =
+    search needs
+
+pub take-in-spec : {M : Type 1} → statement M
+take-in-spec =
+    tie.close
+    (tie.spec
+    Inv-loop
+    μ-loop
+    loop-holds
+    more-requires
+    enum-told
+    same-length
+    returns
+    enum-known-n
+    same-length-2
+    returns-2
+    add-done
+    loop-less
+    loop-again
+    same-length-3
+    returns-3)
