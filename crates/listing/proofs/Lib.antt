@@ -5,6 +5,6 @@ pub mod ReplyLaws
 pub mod Counted
 pub mod LineCounts
 pub mod Sizes
-pub mod Ordered
+pub mod AscendingPairs
 pub mod Unique
 mod Examples

@@ -29,17 +29,20 @@ use Rattle.listing.specs.Replies.{listingOf, fitted, listedAs, heldAfter
 use Rattle.listing.specs.declared.Listed.{Listed}
 use Rattle.listing.specs.declared.Listed.the-variants as reply
 
--- ---- a text and room for it
+-- ---- a text and room for it, and what a refusal leaves
+
+pub too-long : (text : List ℕ) (room : ℕ) → room < length text → reply.Refused LongListing ≡ fitted text room
+unfolding fitted
+too-long text room h =
+    sym (ap (λ (b : Bool). cond b (reply.Length (length text)) (reply.Refused LongListing)) (lt-leb (length text) room h))
 
 pub fits : (text : List ℕ) (room : ℕ) → length text ≤ room → reply.Length (length text) ≡ fitted text room
 unfolding fitted
 fits text room h =
     sym (ap (λ (b : Bool). cond b (reply.Length (length text)) (reply.Refused LongListing)) (le-leb (length text) room h))
 
-pub too-long : (text : List ℕ) (room : ℕ) → room < length text → reply.Refused LongListing ≡ fitted text room
-unfolding fitted
-too-long text room h =
-    sym (ap (λ (b : Bool). cond b (reply.Length (length text)) (reply.Refused LongListing)) (lt-leb (length text) room h))
+pub unchanged : (new old : List ℕ) {x : Listed} {r : Refusal} → x ≡ reply.Refused r → heldAfter new old x ≡ old
+unchanged new old e = ap (heldAfter new old) e
 
 -- ---- what an admitted table gives
 
@@ -117,7 +120,7 @@ module _ (t : Table) (m b : List ℕ) where
   unfolding listed matrixListed bytesListed
   refused-listing e =
       let said = ap (listedAs (programOf t) (length b)) e in
-      (sym said, (sym (ap (heldAfter (matrixAfter t m) m) said), sym (ap (heldAfter (inFront (listingOf (programOf t)) b) b) said)))
+      (sym said, (sym (unchanged _ m said), sym (unchanged _ b said)))
 
   pub admitted-listing :
       {r : Listed} {m' b' : List ℕ} → judgedWith t (length m) ≡ Admitted → Handed (listingOf (programOf t)) (mainPairs 1 (programOf t)) m b r m' b'

@@ -36,7 +36,7 @@ use Rattle.listing.specs.declared.Listed.the-variants as reply
 use Rattle.listing.proofs.LineLaws.{length-pair-line, length-opening, word-short}
 use Rattle.listing.proofs.PairLaws.{line-of-marked, no-line-of-unmarked, no-pair-below, bytes-in-turn}
 use Rattle.listing.proofs.Counted.{sum-monotone, pairs-few}
-use Rattle.listing.proofs.ReplyLaws.{fits}
+use Rattle.listing.proofs.ReplyLaws.{fits, unchanged}
 
 -- the most digits that a label has
 abbrev labelWidth : ℕ → ℕ
@@ -142,8 +142,7 @@ pub refused-unchanged :
     (t : Table) (m b : List ℕ) (r : Refusal) → listed t (length m) (length b) ≡ reply.Refused r
     → (matrixListed t m (length b) ≡ m) × (bytesListed t (length m) b ≡ b)
 unfolding matrixListed bytesListed
-refused-unchanged t m b r e =
-    (ap (heldAfter (matrixAfter t m) m) e, ap (heldAfter (inFront (listingOf (programOf t)) b) b) e)
+refused-unchanged t m b r e = (unchanged _ m e, unchanged _ b e)
 
 -- After a listing the matrix holds what the analysis leaves, and the bytes begin with the listing.
 pub listed-held :

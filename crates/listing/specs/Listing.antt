@@ -7,16 +7,19 @@ use Rattle.text.specs.Bytes.{tab, newline}
 use Rattle.text.specs.Numbers.{spelled}
 use Rattle.listing.specs.Pairs.{Pair, pairs}
 
--- The bytes of `pairs`, `rounds`, `exact` and `wide`.
+-- The keyword `pairs`.
 abbrev pub pairsWord : List ℕ
 pairsWord = 112 ∷ 97 ∷ 105 ∷ 114 ∷ 115 ∷ []
 
+-- The keyword `rounds`.
 abbrev pub roundsWord : List ℕ
 roundsWord = 114 ∷ 111 ∷ 117 ∷ 110 ∷ 100 ∷ 115 ∷ []
 
+-- The word `exact`.
 abbrev pub exactWord : List ℕ
 exactWord = 101 ∷ 120 ∷ 97 ∷ 99 ∷ 116 ∷ []
 
+-- The word `wide`.
 abbrev pub wideWord : List ℕ
 wideWord = 119 ∷ 105 ∷ 100 ∷ 101 ∷ []
 

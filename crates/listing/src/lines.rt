@@ -1,4 +1,5 @@
-// The lines of a listing: how long they are, and how they are written at a place of lent bytes.
+// The lines of a listing: how long they are, and how they are written at a place of lent bytes. The bounds on lengths leave much to
+// spare: they only keep the sums within a machine number.
 ghost use mathlib.Core.Path.{_≡_};
 ghost use mathlib.Core.List.{_∷_, [], _++_};
 ghost use Prim.Native.Nat.{_*_, _≤_, _<_};

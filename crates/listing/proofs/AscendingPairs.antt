@@ -1,6 +1,6 @@
 -- The pairs of the listing are the marked ones at or above the diagonal, in ascending order: lists in turn are in order if each is and each stands before the next.
 -- Assumes nothing.
-use mathlib.Core.Path.{_≡_, refl, sym, ap, _∙_, subst}
+use mathlib.Core.Path.{_≡_, refl, sym, ap, ap₂, _∙_, subst}
 use mathlib.Core.Bool.{Bool, true, false, cond, _&&_}
 use mathlib.Core.Logic.{inl, inr, ⊎-elim}
 use mathlib.Core.List.{List, [], _∷_, _++_, List·Memᴰ, List·Memᴰ·head, List·Memᴰ·not-nil, List·Memᴰ·append-cases, List·Memᴰ·eq-of-singleton, Memᴰ·append-left, Memᴰ·append-right}
@@ -60,6 +60,12 @@ ascending-in-turn (suc n) f each across =
 
 -- ---- the pairs of a label, and of all labels
 
+of-pair : (s : List ℕ) (i j : ℕ) → i ≤ j → member s j ≡ 1 → List·Memᴰ (i, j) (pairAt s i j)
+unfolding pairAt
+of-pair s i j h e =
+    subst (λ (t : Bool). List·Memᴰ (i, j) (cond {A = List Pair} t ((i, j) ∷ []) []))
+    (sym (ap₂ _&&_ (le-leb i j h) (eq-eqb (member s j) 1 e))) (List·Memᴰ·head refl)
+
 pub record PairOf (s : List ℕ) (i j : ℕ) (p : Pair) : Type 0 where
   pub is : p ≡ (i, j)
   pub low : i ≤ j
@@ -75,10 +81,6 @@ pair-of s i j p h = go (leb i j) refl (eqb (member s j) 1) refl h
     go true e true f h = record { is = List·Memᴰ·eq-of-singleton h; low = leb-true i j e; partner = eqb-true (member s j) 1 f }
     go true e false f h = absurd (List·Memᴰ·not-nil h)
     go false e b f h = absurd (List·Memᴰ·not-nil h)
-
-of-pair : (s : List ℕ) (i j : ℕ) → i ≤ j → member s j ≡ 1 → List·Memᴰ (i, j) (pairAt s i j)
-unfolding pairAt
-of-pair s i j h e = rw (le-leb i j h, eq-eqb (member s j) 1 e) (List·Memᴰ·head refl)
 
 ascending-pair : (s : List ℕ) (i j : ℕ) → Ascending (pairAt s i j)
 unfolding pairAt
