@@ -1,0 +1,96 @@
+// The analysis on a lent slice of row records, and the way back from an array of records into a lent slice.
+ghost use mathlib.Core.Path.{_≡_};
+ghost use mathlib.Core.List.{List};
+ghost use Prim.Native.Nat.{_≤_, min};
+ghost use lib.ListN.{length};
+ghost use Rattle.analysis.specs.Replies.{analysed, matrixAfter};
+ghost use Rattle.recipe.specs.Ceilings.{rowCeiling};
+ghost use Rattle.recipe.specs.declared.Row.{Row};
+ghost use Rattle.records.specs.Records.{tableOfRows, Answers, Copies, overlaid};
+use analysis::Analysed;
+use recipe::Refusal;
+use recipe::Row;
+use recipe::RowNumber;
+
+// How many of so many lent rows are copied: all of them, and none where there are more than a table can have.
+fn rows_taken(lent: usize) -> usize
+    ensures { λ r. ⌜ (r ≤ lent) × (r ≤ rowCeiling) × (lent ≤ rowCeiling → r ≡ lent) ⌝ }
+{
+    if RowNumber::CEILING < lent { 0 } else { lent }
+}
+
+// The fields of as many rows as a table can have, each in an array of its own.
+struct Columns {
+    kinds: [u8; RowNumber::CEILING],
+    xs: [u16; RowNumber::CEILING],
+    ys: [u16; RowNumber::CEILING],
+}
+
+// The fields of the lent rows, with zeros after them.
+fn copy_in(rows: &[Row]) -> Columns
+    ensures { λ r. ⌜ Copies r (now (rows .entry)) ⌝ }
+{
+    let n = rows_taken(rows.len());
+    let mut kinds = [0u8; RowNumber::CEILING];
+    let mut xs = [0u16; RowNumber::CEILING];
+    let mut ys = [0u16; RowNumber::CEILING];
+    let mut i: usize = 0;
+    while i < n {
+        let row = rows[i];
+        kinds[i] = row.kind;
+        xs[i] = row.x;
+        ys[i] = row.y;
+        i += 1;
+    }
+    Columns { kinds, xs, ys }
+}
+
+// The analysis of n lent rows, whose fields are copied. More rows than a table can have are refused, as the analysis refuses them.
+fn analyse_copied(n: usize, all: Columns, roots: &[u16], matrix: &mut [u64]) -> Analysed
+    ensures { λ r. ⌜ ((rows : List Row) → length rows ≡ n → Copies all rows
+        → Answers rows (now (roots .entry)) (now (matrix .entry)) r (now (matrix .exit))) ⌝ }
+{
+    if RowNumber::CEILING < n {
+        return Analysed::Refused(Refusal::Sizes);
+    }
+    let kinds = all.kinds;
+    let xs = all.xs;
+    let ys = all.ys;
+    analysis::analyse(&kinds[..n], &xs[..n], &ys[..n], roots, matrix)
+}
+
+// Marks in the lent matrix every two labels that may run at the same time in main, and hands back the rounds: the analysis of the
+// table whose rows are these records. A recipe that is not admitted is refused, and then the matrix is left as it was.
+pub fn analyse_rows(rows: &[Row], roots: &[u16], matrix: &mut [u64]) -> Analysed
+    ensures { λ r. ⌜ (r ≡ analysed (tableOfRows (now (rows .entry)) (now (roots .entry))) (length (now (matrix .entry))))
+        × (now (matrix .exit) ≡ matrixAfter (tableOfRows (now (rows .entry)) (now (roots .entry))) (now (matrix .entry))) ⌝ }
+{
+    let all = copy_in(rows);
+    analyse_copied(rows.len(), all, roots, matrix)
+}
+
+// The lesser of two counts.
+fn lesser(a: usize, b: usize) -> usize
+    ensures { λ r. ⌜ r ≡ min a b ⌝ }
+{
+    if a < b { a } else { b }
+}
+
+// How many of n rows are stored into so many lent ones: as many as there are on both sides.
+fn rows_stored(n: usize, lent: usize) -> usize
+    ensures { λ r. ⌜ r ≡ min (min n rowCeiling) lent ⌝ }
+{
+    lesser(lesser(n, RowNumber::CEILING), lent)
+}
+
+// Stores the first n of these rows into the lent slice, from its start, as far as it goes. What stands after them stays.
+pub fn copy_out(n: usize, all: [Row; RowNumber::CEILING], rows: &mut [Row])
+    ensures { λ _. ⌜ now (rows .exit) ≡ overlaid n all (now (rows .entry)) ⌝ }
+{
+    let m = rows_stored(n, rows.len());
+    let mut i: usize = 0;
+    while i < m {
+        rows[i] = all[i];
+        i += 1;
+    }
+}
