@@ -8,7 +8,8 @@ ghost use Rattle.recipe.specs.Refusals.{refusalNumber, refusalPlace};
 ghost use Rattle.recipe.specs.Tables.{tableOf};
 ghost use Rattle.recipe.specs.Rules.{sizesRight, judged};
 
-// A row of the table: its kind, from 0 to 6, and two operands.
+// A row of the table: its kind, from 0 to 6, and two operands. C declares the same record.
+#[repr(C)]
 pub struct Row {
     pub kind: u8,
     pub x: u16,

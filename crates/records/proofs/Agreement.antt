@@ -10,7 +10,8 @@ use Rattle.recipe.specs.declared.Row.{Row}
 use Rattle.analysis.specs.Replies.{analysed, matrixAfter}
 use Rattle.analysis.specs.declared.Analysed.{Analysed}
 use Rattle.analysis.proofs.analyse.Reads.{Post as analyse-post}
-use Rattle.records.specs.Records.{kindsOf, xsOf, ysOf, tableOfRows, Answers}
+use Rattle.recipe.specs.Records.{kindsOf, xsOf, ysOf, tableOfRows}
+use Rattle.records.specs.Records.{Answers}
 
 -- Three slices that hold the fields of the rows are the same table.
 pub same-table :

@@ -4,7 +4,7 @@ use mathlib.Core.Path.{_≡_, refl}
 use mathlib.Core.List.{[], _∷_}
 use Rattle.recipe.specs.Tables.{tableOf}
 use Rattle.recipe.specs.declared.Row.{Row}
-use Rattle.records.specs.Records.{tableOfRows, overlaid}
+use Rattle.recipe.specs.Records.{tableOfRows}
 
 abbrev step : Row
 step = record { kind = 1; x = 7; y = 0 }
@@ -12,26 +12,8 @@ step = record { kind = 1; x = 7; y = 0 }
 abbrev seq : Row
 seq = record { kind = 2; x = 0; y = 1 }
 
-abbrev other : Row
-other = record { kind = 9; x = 8; y = 6 }
-
 two-rows : tableOfRows (step ∷ seq ∷ []) (1 ∷ []) ≡ tableOf (1 ∷ 2 ∷ []) (7 ∷ 0 ∷ []) (0 ∷ 1 ∷ []) (1 ∷ [])
 two-rows = refl
 
 no-rows : tableOfRows [] (1 ∷ []) ≡ tableOf [] [] [] (1 ∷ [])
 no-rows = refl
-
--- One of two rows is stored, and what stands after it stays.
-one-stored : overlaid 1 (step ∷ seq ∷ []) (other ∷ other ∷ other ∷ []) ≡ step ∷ other ∷ other ∷ []
-unfolding overlaid
-one-stored = refl
-
--- The lent slice is too short for both, and only what fits is stored.
-cut-short : overlaid 2 (step ∷ seq ∷ []) (other ∷ []) ≡ step ∷ []
-unfolding overlaid
-cut-short = refl
-
--- More are asked for than there are.
-no-more : overlaid 5 (step ∷ []) (other ∷ other ∷ []) ≡ step ∷ other ∷ []
-unfolding overlaid
-no-more = refl

@@ -1,9 +1,5 @@
 pub mod Agreement
-pub mod Copies
-pub mod CountedLoop
 pub mod Examples
-pub mod LocalArray
-pub mod RowMemory
 pub mod StoredColumns
 pub mod TooMany
 pub mod Unique

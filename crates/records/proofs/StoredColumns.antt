@@ -7,7 +7,7 @@ use native.Mathlib.Omega.{arith}
 use lib.ListN.{length, getD, set, take, length-set}
 use lib.Seq.{take-suc, take-suc-set, take-length}
 use Rattle.recipe.specs.declared.Row.{Row}
-use Rattle.records.proofs.Copies.{blank}
+use Rattle.memory.proofs.RowMemory.{blank}
 
 -- What i turns of a loop leave that stores this field of the rows over old numbers.
 abbrev pub column : (Row → ℕ) → ℕ → List Row → List ℕ → List ℕ

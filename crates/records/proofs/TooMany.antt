@@ -15,7 +15,7 @@ use Rattle.recipe.proofs.Judging.{sized}
 use Rattle.analysis.specs.Replies.{analysed, matrixAfter}
 use Rattle.analysis.specs.declared.Analysed.the-variants as reply
 use Rattle.analysis.proofs.ReplyLaws.{wrong-sizes, refused-reply}
-use Rattle.records.specs.Records.{tableOfRows}
+use Rattle.recipe.specs.Records.{tableOfRows}
 
 wrong : (t : Table) → rowCeiling < rows t → sizesRight (rows t) (length (t .xs)) (length (t .ys)) (procs t) ≡ false
 wrong t h = go (sizesRight (rows t) (length (t .xs)) (length (t .ys)) (procs t)) refl

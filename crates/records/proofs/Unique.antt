@@ -1,4 +1,4 @@
--- Two replies and later contents that meet a public function's contract are equal, since each contract is an equation. `Answers` and `Stores` are what the contracts state.
+-- Two replies and later contents that meet a public function's contract are equal, since each contract is an equation. `Answers` is what the contract states.
 -- Assumes nothing.
 use mathlib.Core.Path.{_≡_, refl, sym, _∙_}
 use mathlib.Core.List.{List}
@@ -13,13 +13,8 @@ use contract.Monad.{Fun, fact}
 use denote.Ref.{now}
 use Rattle.recipe.specs.declared.Row.{Row}
 use Rattle.analysis.specs.declared.Analysed.{Analysed}
-use Rattle.records.specs.Records.{Answers, overlaid}
+use Rattle.records.specs.Records.{Answers}
 use Rattle.records.proofs.analyse_rows as entry
-use Rattle.records.proofs.copy_out as way-back
-
--- The lent rows after the first n of these were stored.
-abbrev pub Stores : ℕ → List Row → List Row → List Row → Type 0
-Stores n all old new = new ≡ overlaid n all old
 
 -- They are the clauses of the contracts, word for word.
 module _ {M : Type 1} (𝓤 : URA M) (H : Heap 𝓤) (A : Atoms 𝓤) (mem : Memory → SProp 𝓤) (run : Routine → Fun 𝓤) where
@@ -28,14 +23,6 @@ module _ {M : Type 1} (𝓤 : URA M) (H : Heap 𝓤) (A : Atoms 𝓤) (mem : Mem
       → entry.clauses 𝓤 H A mem run κs a .ensures tt r e ≡ fact 𝓤 (Answers (now (a .0)) (now (a .1 .0)) (now (a .1 .1 .0)) r (now (e .1 .1 .0)))
   analyse-rows-states κs a r e = refl
 
-  pub copy-out-states :
-      (κs a r e : _)
-      → way-back.clauses 𝓤 H A mem run κs a .ensures tt r e ≡ fact 𝓤 (Stores (a .0) (a .1 .0) (now (a .1 .1 .0)) (now (e .1 .1 .0)))
-  copy-out-states κs a r e = refl
-
 pub analyse-rows-determined :
     (rows : List Row) (roots m : List ℕ) (r r' : Analysed) (s s' : List ℕ) → Answers rows roots m r s → Answers rows roots m r' s' → (r ≡ r') × (s ≡ s')
 analyse-rows-determined rows roots m r r' s s' p q = (p .0 ∙ sym (q .0), p .1 ∙ sym (q .1))
-
-pub copy-out-determined : (n : ℕ) (all old new new' : List Row) → Stores n all old new → Stores n all old new' → new ≡ new'
-copy-out-determined n all old new new' p q = p ∙ sym q

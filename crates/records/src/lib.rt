@@ -1,12 +1,13 @@
-// The analysis on a lent slice of row records, and the way back from an array of records into a lent slice.
+// The analysis on a lent slice of row records.
 ghost use mathlib.Core.Path.{_≡_};
 ghost use mathlib.Core.List.{List};
-ghost use Prim.Native.Nat.{_≤_, min};
+ghost use Prim.Native.Nat.{_≤_};
 ghost use lib.ListN.{length};
 ghost use Rattle.analysis.specs.Replies.{analysed, matrixAfter};
 ghost use Rattle.recipe.specs.Ceilings.{rowCeiling};
 ghost use Rattle.recipe.specs.declared.Row.{Row};
-ghost use Rattle.records.specs.Records.{tableOfRows, Answers, Copies, overlaid};
+ghost use Rattle.recipe.specs.Records.{tableOfRows};
+ghost use Rattle.records.specs.Records.{Answers, Copies};
 use analysis::Analysed;
 use recipe::Refusal;
 use recipe::Row;
@@ -67,30 +68,4 @@ pub fn analyse_rows(rows: &[Row], roots: &[u16], matrix: &mut [u64]) -> Analysed
 {
     let all = copy_in(rows);
     analyse_copied(rows.len(), all, roots, matrix)
-}
-
-// The lesser of two counts.
-fn lesser(a: usize, b: usize) -> usize
-    ensures { λ r. ⌜ r ≡ min a b ⌝ }
-{
-    if a < b { a } else { b }
-}
-
-// How many of n rows are stored into so many lent ones: as many as there are on both sides.
-fn rows_stored(n: usize, lent: usize) -> usize
-    ensures { λ r. ⌜ r ≡ min (min n rowCeiling) lent ⌝ }
-{
-    lesser(lesser(n, RowNumber::CEILING), lent)
-}
-
-// Stores the first n of these rows into the lent slice, from its start, as far as it goes. What stands after them stays.
-pub fn copy_out(n: usize, all: [Row; RowNumber::CEILING], rows: &mut [Row])
-    ensures { λ _. ⌜ now (rows .exit) ≡ overlaid n all (now (rows .entry)) ⌝ }
-{
-    let m = rows_stored(n, rows.len());
-    let mut i: usize = 0;
-    while i < m {
-        rows[i] = all[i];
-        i += 1;
-    }
 }

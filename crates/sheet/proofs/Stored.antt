@@ -9,7 +9,8 @@ use lib.ListN.{length}
 use Rattle.recipe.specs.declared.Refusal.{Refusal}
 use Rattle.recipe.specs.declared.Row.{Row}
 use Rattle.sheet.specs.Form.{spell}
-use Rattle.sheet.specs.Reading.{Reading, table, refused, readInto, rowsOf, rootsOf, replyOf, laid, kindsOf, xsOf, ysOf}
+use Rattle.recipe.specs.Records.{kindsOf, xsOf, ysOf}
+use Rattle.sheet.specs.Reading.{Reading, table, refused, readInto, rowsOf, rootsOf, replyOf, laid}
 use Rattle.sheet.specs.declared.Read.the-variants.{Stored, Refused}
 use Rattle.sheet.proofs.SheetForms.{read-is-spelled}
 use Rattle.sheet.proofs.read_sheet.Reads.{Post as read-sheet-post}

@@ -1,6 +1,6 @@
 -- Reading a sheet line by line: the rows, then the procedures. The first line that is wrong or has no room decides.
 use mathlib.Core.Bool.{true, false}
-use mathlib.Core.List.{List, [], _∷_, _++_, map}
+use mathlib.Core.List.{List, [], _∷_, _++_}
 use Prim.Native.Nat.{ℕ, zero, suc, _+_, min}
 use lib.Dec.{leb}
 use lib.ListN.{length, drop}
@@ -87,18 +87,6 @@ abbrev pub replyOf : Reading → Read
 replyOf (table rows roots) = Stored (length rows) (length roots)
 replyOf (refused why) = Refused why
 
--- A lent slice after the reading: the numbers read, then what stood there behind them.
-abbrev pub laid : List ℕ → List ℕ → List ℕ
+-- A lent slice after the reading: what was read, then what stood there behind it.
+abbrev pub laid : {A : Type 0} → List A → List A → List A
 laid new old = new ++ drop (length new) old
-
--- The kinds of some rows.
-abbrev pub kindsOf : List Row → List ℕ
-kindsOf rows = map (λ (row : Row). row .kind) rows
-
--- The first operands of some rows.
-abbrev pub xsOf : List Row → List ℕ
-xsOf rows = map (λ (row : Row). row .x) rows
-
--- The second operands of some rows.
-abbrev pub ysOf : List Row → List ℕ
-ysOf rows = map (λ (row : Row). row .y) rows

@@ -1,7 +1,8 @@
 // The sheet: a recipe's table as lines of text, and its reader.
 ghost use mathlib.Core.Path.{_≡_};
 ghost use Prim.Native.Nat.{min};
-ghost use Rattle.sheet.specs.Reading.{readInto, rowsOf, rootsOf, replyOf, laid, kindsOf, xsOf, ysOf};
+ghost use Rattle.recipe.specs.Records.{kindsOf, xsOf, ysOf};
+ghost use Rattle.sheet.specs.Reading.{readInto, rowsOf, rootsOf, replyOf, laid};
 use lines::Room;
 use recipe::Refusal;
 

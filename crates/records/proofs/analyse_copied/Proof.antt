@@ -11,7 +11,8 @@ use Rattle.recipe.specs.Ceilings.{rowCeiling}
 use Rattle.recipe.specs.Tables.{Table, tableOf}
 use Rattle.recipe.specs.declared.Row.{Row}
 use Rattle.analysis.specs.Replies.{analysed, matrixAfter}
-use Rattle.records.specs.Records.{Copies, tableOfRows}
+use Rattle.recipe.specs.Records.{tableOfRows}
+use Rattle.records.specs.Records.{Copies}
 use Rattle.records.specs.declared.Columns.{Columns}
 use Rattle.records.proofs.TooMany.{too-many}
 use Rattle.records.proofs.Agreement.{same-table}

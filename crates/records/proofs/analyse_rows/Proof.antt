@@ -46,7 +46,7 @@ use Rattle.records.specs.Records.{Answers, Copies}
 use Rattle.records.specs.declared.Columns.{Columns}
 use Rattle.records.proofs.Columns as Cl
 use Rattle.records.proofs.Columns.Laws as Cl′
-use Rattle.records.proofs.RowMemory.{R}
+use Rattle.memory.proofs.RowMemory.{R}
 use Rattle.records.proofs.copy_in as copy-in
 use Rattle.records.proofs.copy_in.Symbol as copy-in-def
 use Rattle.records.proofs.copy_in.Symbol.{name as #records·copy-in}

@@ -53,14 +53,14 @@ use Rattle.recipe.proofs.Row as T
 use Rattle.recipe.proofs.Row.Laws as T′
 use Rattle.records.specs.Records.{Copies}
 use Rattle.records.specs.declared.Columns.{Columns}
-use Rattle.records.proofs.Copies.{blank}
+use Rattle.memory.proofs.RowMemory.{blank}
 use Rattle.records.proofs.StoredColumns.{column, length-column, column-all}
 use Rattle.records.proofs.Columns as Cl
 use Rattle.records.proofs.Columns.Laws as Cl′
-use Rattle.records.proofs.CountedLoop.{counted-loop}
-use Rattle.records.proofs.LocalArray as local-array
-use Rattle.records.proofs.LocalArray.{arrayTy, zeros, zeroed, length-zeros, zeros-are, repeats-zero}
-use Rattle.records.proofs.RowMemory.{R, rowTy, vals, tells, copies, row-typed}
+use Rattle.memory.proofs.CountedLoop.{counted-loop}
+use Rattle.memory.proofs.LocalArray as local-array
+use Rattle.memory.proofs.LocalArray.{arrayTy, zeros, zeroed, length-zeros, zeros-are, repeats-zero}
+use Rattle.memory.proofs.RowMemory.{R, rowTy, vals, tells, copies, row-typed}
 use Rattle.records.proofs.rows_taken as taken
 use Rattle.records.proofs.rows_taken.Symbol as taken-def
 use Rattle.records.proofs.rows_taken.Symbol.{name as #records·rows-taken}

@@ -5,7 +5,8 @@ use mathlib.Core.Path.{ap, _∙_, subst}
 use Prim.Native.Nat.{ℕ, min}
 use denote.Ref.{now}
 use lib.ListN.{length}
-use Rattle.sheet.specs.Reading.{Reading, readInto, readSheet, kindsOf, xsOf, ysOf}
+use Rattle.recipe.specs.Records.{kindsOf, xsOf, ysOf}
+use Rattle.sheet.specs.Reading.{Reading, readInto, readSheet}
 use Rattle.sheet.specs.Steps.{Holding}
 use Rattle.sheet.proofs.Holdings.{rows-counted, rows-taken, rows-there, roots-counted, roots-taken, roots-there}
 use Rattle.sheet.proofs.Laying.{relaid}

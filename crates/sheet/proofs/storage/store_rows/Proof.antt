@@ -4,7 +4,7 @@ use mathlib.Core.Path.{_≡_, refl}
 use Prim.Native.Nat.{_-_, _≤_}
 use native.Mathlib.Omega.{arith}
 use Rattle.recipe.specs.declared.Row.{Row}
-use Rattle.sheet.specs.Reading.{kindsOf, xsOf, ysOf}
+use Rattle.recipe.specs.Records.{kindsOf, xsOf, ysOf}
 use Rattle.sheet.proofs.Laying.{Laying, laying-begins, column-goes-on, column-ends}
 use Rattle.sheet.proofs.storage.store_rows.Statement.{statement}
 use Rattle.sheet.proofs.storage.store_rows.Tie as tie

@@ -48,20 +48,20 @@ use denote.Triple.Walked.{says, Stays, stay-none, stay-slice, walkOf, goes-none,
 use denote.Exit.{yes}
 use Rattle.recipe.specs.Ceilings.{rowCeiling}
 use Rattle.recipe.specs.declared.Row.{Row}
-use Rattle.records.specs.Records.{overlaid}
-use Rattle.records.proofs.Copies.{blank, stored, length-stored, stored-overlaid}
-use Rattle.records.proofs.CountedLoop.{counted-loop}
-use Rattle.records.proofs.LocalArray as local-array
-use Rattle.records.proofs.RowMemory.{R, Rows, rowTy, rowsTy, vals, tells, made, lawful, row-typed}
-use Rattle.records.proofs.rows_stored as count
-use Rattle.records.proofs.rows_stored.Symbol as count-def
-use Rattle.records.proofs.rows_stored.Symbol.{name as #records·rows-stored}
-use Rattle.records.proofs.rows_stored.Met as count-thm
-use Rattle.records.proofs.copy_out.Key.{name as #records·copy-out}
-use Rattle.records.proofs.copy_out as copy-out
-use Rattle.records.proofs.copy_out.Statement as stated
-use Rattle.records.proofs.copy_out.Code as code
-use Rattle.records.proofs.copy_out.Code.Mir as mir
+use Rattle.sheet_records.specs.Stored.{overlaid}
+use Rattle.sheet_records.proofs.Overlaid.{stored, length-stored, stored-overlaid}
+use Rattle.memory.proofs.CountedLoop.{counted-loop}
+use Rattle.memory.proofs.LocalArray as local-array
+use Rattle.memory.proofs.RowMemory.{blank, R, Rows, rowTy, rowsTy, vals, tells, made, lawful, row-typed}
+use Rattle.sheet_records.proofs.rows_stored as count
+use Rattle.sheet_records.proofs.rows_stored.Symbol as count-def
+use Rattle.sheet_records.proofs.rows_stored.Symbol.{name as #sheet-records·rows-stored}
+use Rattle.sheet_records.proofs.rows_stored.Met as count-thm
+use Rattle.sheet_records.proofs.copy_out.Key.{name as #sheet-records·copy-out}
+use Rattle.sheet_records.proofs.copy_out as copy-out
+use Rattle.sheet_records.proofs.copy_out.Statement as stated
+use Rattle.sheet_records.proofs.copy_out.Code as code
+use Rattle.sheet_records.proofs.copy_out.Code.Mir as mir
 
 abbrev stayed : Stays (copy-out.ended .signature .params) (copy-out.ended .kept)
 stayed = (stay-none (λ _. usize) yes, (stay-none (λ _. Rows) yes, (stay-slice (0 ∷ []) tt (plain (λ _. R)), tt)))
@@ -210,7 +210,7 @@ module _ {M : Type 1} (𝓤 : URA M) (H : Heap 𝓤) (A : Atoms 𝓤) (W : Given
   said : (r : ℕ) → ent 𝓤 (ensured 𝓤 H A count.ended (count.clauses 𝓤 H A mem run) tt (n, (length ys, tt)) tt r) (fact 𝓤 (r ≡ min (min n rowCeiling) (length ys)))
   said r = exE 𝓤 _ (λ ws. snd∗ 𝓤 (sem 𝓤 H A (lasts count.ended tt (n, (length ys, tt)) ws)) (fact 𝓤 (r ≡ min (min n rowCeiling) (length ys))))
 
-  module _ (𝓣 : Tables 𝓤 H) (known : Triple 𝓤 (𝓣 .C #records·rows-stored) (Count 𝓤 H A mem run)) where
+  module _ (𝓣 : Tables 𝓤 H) (known : Triple 𝓤 (𝓣 .C #sheet-records·rows-stored) (Count 𝓤 H A mem run)) where
     -- the code up to the loop: the array goes to memory, the call, and the borrow is opened
     walk : ent 𝓤 (onEntry 𝓤 H A copy-out.signature (κ, tt) (q, tt) (n, (all, (x ys, tt))) (vint w64 n ∷ [], (machine all ∷ [], (s ∷ [], tt)))) (WpFn 𝓤 H (𝓣 .C) (𝓣 .Λ) code.function (vint w64 n ∷ machine all ∷ s ∷ []) Post)
     walk =
@@ -235,7 +235,7 @@ module _ {M : Type 1} (𝓤 : URA M) (H : Heap 𝓤) (A : Atoms 𝓤) (W : Given
         keep ! (0 ∷ 7 ∷ 24 ∷ 20 ∷ 18 ∷ 16 ∷ 14 ∷ 12 ∷ 10 ∷ 8 ∷ 29 ∷ 26 ∷ 35 ∷ 1 ∷ 2 ∷ 3 ∷ 33 ∷ 31 ∷ 22 ∷ 36 ∷ 34 ∷ 32 ∷ 30 ∷ 28 ∷ 27 ∷ 25 ∷ 23 ∷ 21 ∷ 19 ∷ 17 ∷ 15 ∷ 13 ∷ 11 ∷ 9 ∷ []) $
         by ! (loops 𝓣 r right l₀ l₁ l₂ l₃ l₄ l₅ l₆ l₇ l₈ l₉ l₁₀ l₁₁ l₁₂ l₁₃ l₁₄))))))))))))))))))))
 
-module _ {M : Type 1} (𝓤 : URA M) (H : Heap 𝓤) (A : Atoms 𝓤) (W : Given 𝓤 H A) (mem : Memory → SProp 𝓤) (run : Routine → Fun 𝓤) (𝓣 : Tables 𝓤 H) (known : Triple 𝓤 (𝓣 .C #records·rows-stored) (Count 𝓤 H A mem run)) where
+module _ {M : Type 1} (𝓤 : URA M) (H : Heap 𝓤) (A : Atoms 𝓤) (W : Given 𝓤 H A) (mem : Memory → SProp 𝓤) (run : Routine → Fun 𝓤) (𝓣 : Tables 𝓤 H) (known : Triple 𝓤 (𝓣 .C #sheet-records·rows-stored) (Count 𝓤 H A mem run)) where
   copy-out-walks : Walks 𝓤 H A copy-out.ended stayed (WpFn 𝓤 H (𝓣 .C) (𝓣 .Λ) code.function) (copy-out.clauses 𝓤 H A mem run)
   copy-out-walks = walked 𝓤 H A copy-out.ended stayed (copy-out.clauses 𝓤 H A mem run) (WpFn 𝓤 H (𝓣 .C) (𝓣 .Λ) code.function) (λ κs. (uint-vals w64, (array-vals vals, (slice-vals, tt)))) (λ κs. (uint-tells w64, (array-tells R vals tells 1024, (mut-slice-tells (named 0) (κs .0) R, tt))))
       (λ κs qs bounds a g are. via 𝓤 _ (fst∗ 𝓤 _ (emp 𝓤))
@@ -250,6 +250,6 @@ pub copy-out-spec : {M : Type 1} → stated.statement M
 unfolding code.routine tablesOf
 copy-out-spec 𝓤 H 𝓜 𝓖 𝓡 =
     entered 𝓤 H (tripleOf 𝓤 H (𝓖 .A) copy-out.signature (copy-out.spec 𝓤 H (𝓖 .A) (𝓜 .mem) (𝓡 .run)))
-    (tables 𝓤 H 𝓜 𝓡 code.env .C) (tables 𝓤 H 𝓜 𝓡 code.env .Λ) #records·copy-out code.function (code.unfolded 𝓤 H 𝓜 𝓡)
+    (tables 𝓤 H 𝓜 𝓡 code.env .C) (tables 𝓤 H 𝓜 𝓡 code.env .Λ) #sheet-records·copy-out code.function (code.unfolded 𝓤 H 𝓜 𝓡)
     (copy-out-meets 𝓤 H (𝓖 .A) (givenOf 𝓤 H 𝓜 𝓖) (𝓜 .mem) (𝓡 .run) (tablesOf 𝓤 H 𝓜 (tables 𝓤 H 𝓜 𝓡 code.env))
-    (cited 𝓤 H (Count 𝓤 H (𝓖 .A) (𝓜 .mem) (𝓡 .run)) 𝓜 𝓡 code.env #records·rows-stored count-def.routine code.calls-records·rows-stored (count-thm.met 𝓤 H 𝓜 𝓖 𝓡)))
+    (cited 𝓤 H (Count 𝓤 H (𝓖 .A) (𝓜 .mem) (𝓡 .run)) 𝓜 𝓡 code.env #sheet-records·rows-stored count-def.routine code.calls-sheet-records·rows-stored (count-thm.met 𝓤 H 𝓜 𝓖 𝓡)))

@@ -1,8 +1,8 @@
 -- `rows_stored` meets its contract: the lesser of the lesser.
 -- Assumes nothing.
 use borrow.Author.Needs.{needs}
-use Rattle.records.proofs.rows_stored.Statement.{statement}
-use Rattle.records.proofs.rows_stored.Tie as tie
+use Rattle.sheet_records.proofs.rows_stored.Statement.{statement}
+use Rattle.sheet_records.proofs.rows_stored.Tie as tie
 
 lesser-requires : tie.Need-lesser-requires
 lesser-requires c κs = search needs

@@ -15,7 +15,11 @@ use denote.Struct.Laws as LL
 use Rattle.recipe.specs.declared.Row.{Row}
 use Rattle.recipe.proofs.Row as T
 use Rattle.recipe.proofs.Row.Laws as T′
-use Rattle.records.proofs.LocalArray.{arrayTy}
+use Rattle.memory.proofs.LocalArray.{arrayTy}
+
+-- A row of zeros.
+abbrev pub blank : Row
+blank = record { kind = 0; x = 0; y = 0 }
 
 abbrev pub R : RattleType
 R = T.the-row

@@ -8,11 +8,8 @@ use native.Mathlib.Omega.{arith}
 use lib.ListN.{length, getD, set, take, drop, length-set}
 use lib.Seq.{drop-cons, take-suc, set-at, length-take-le}
 use Rattle.recipe.specs.declared.Row.{Row}
-use Rattle.records.specs.Records.{overlaid}
-
--- A row of zeros.
-abbrev pub blank : Row
-blank = record { kind = 0; x = 0; y = 0 }
+use Rattle.memory.proofs.RowMemory.{blank}
+use Rattle.sheet_records.specs.Stored.{overlaid}
 
 -- What i turns of a loop leave that stores the new rows over the old ones.
 abbrev pub stored : ℕ → List Row → List Row → List Row

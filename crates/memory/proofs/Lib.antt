@@ -1,0 +1,3 @@
+pub mod CountedLoop
+pub mod LocalArray
+pub mod RowMemory
