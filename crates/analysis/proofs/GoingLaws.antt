@@ -16,7 +16,7 @@ use Rattle.labels.proofs.SetLaws.{getD-none}
 use Rattle.labels.proofs.MatrixLaws.{merged-cleared}
 use Rattle.calculus.specs.Syntax.{Stmt, skip, step, seq, loop, async, finish, call, Program, body}
 use Rattle.calculus.specs.Calls.{CallsIn}
-use Rattle.recipe.specs.Ceilings.{procCeiling}
+use Rattle.numbers.specs.Ceilings.{procCeiling}
 use Rattle.recipe.specs.Tables.{Table, tableOf}
 use Rattle.recipe.specs.Rules.{admitted, lowest}
 use Rattle.recipe.specs.Statements.{programOf}
@@ -30,7 +30,7 @@ use Rattle.analysis.specs.Storage.{Shaped, Sizes, Turn, StoredBelow, hel
 use Rattle.analysis.proofs.Bound.{final-settled}
 use Rattle.analysis.proofs.Shape.{sized-none, shaped-empty}
 use Rattle.analysis.proofs.Into.{by-parts}
-use Rattle.analysis.proofs.RowLaws.{same-statement, calls-in-range}
+use Rattle.recipe.proofs.AloneLaws.{same-statement, calls-in-range}
 use Rattle.analysis.proofs.TurnLaws.{shaped-body}
 
 -- summaries that agree on what a statement calls give it the same summary

@@ -10,11 +10,12 @@ use Rattle.labels.specs.Matrix.{matrixWords, merged, crossed, cleared}
 use Rattle.calculus.specs.Syntax.{Stmt, skip, step, seq, loop, async, finish, call}
 use Rattle.recipe.specs.Statements.{statementAt}
 use Rattle.analysis.specs.Summaries.{WordSummary, wordsOf}
-use Rattle.analysis.specs.Storage.{rowsAlone, Ready, Sized, Shaped, summaryWords, sequenced, repeated, markedInto, heldFor}
+use Rattle.recipe.specs.Alone.{rowsAlone}
+use Rattle.analysis.specs.Storage.{Ready, Sized, Shaped, summaryWords, sequenced, repeated, markedInto, heldFor}
 use Rattle.analysis.specs.declared.summary.Summary.{Summary}
 use Rattle.analysis.proofs.Shape.{sized-joined, shaped-called}
 use Rattle.analysis.proofs.Into.{by-parts, crossed-into, merged-into, none-into, cleared-into}
-use Rattle.analysis.proofs.RowLaws.{calls-below, first-smaller, second-smaller, loop-smaller, alone-skip, alone-step, alone-seq, alone-loop, alone-async, alone-finish, alone-call}
+use Rattle.recipe.proofs.AloneLaws.{calls-below, first-smaller, second-smaller, loop-smaller, alone-skip, alone-step, alone-seq, alone-loop, alone-async, alone-finish, alone-call}
 
 abbrev O : WordSummary → List ℕ
 O z = z .O

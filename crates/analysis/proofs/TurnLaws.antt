@@ -10,7 +10,7 @@ use borrow.Rule.Slice.PartMut.{putMid, same-len-mid}
 use lib.ListN.{length, getD, take, drop, set, length-take, length-drop, List·getD-append}
 use lib.Seq.{length-take-le, take-at, drop-at, getD-take, getD-drop, getD-append-add, getD-set-same, getD-set-other, ext-getD}
 use Rattle.labels.specs.Matrix.{matrixWords}
-use Rattle.recipe.specs.Ceilings.{procCeiling}
+use Rattle.numbers.specs.Ceilings.{procCeiling}
 use Rattle.recipe.specs.Tables.{tableOf}
 use Rattle.recipe.proofs.Admitted.{sizes-right, root-row}
 use Rattle.analysis.specs.Storage.{Sized, Shaped, Sizes, Ready, Turn, Stored, StoredBelow, summaryWords, heldFor, bodyWords}

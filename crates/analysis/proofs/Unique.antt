@@ -2,17 +2,9 @@
 -- Assumes nothing.
 use mathlib.Core.Path.{_≡_, sym, _∙_}
 use denote.Ref.{now}
-use Rattle.analysis.proofs.judge_with.Reads.{Post as judge-with-post}
 use Rattle.analysis.proofs.analyse.Reads.{Post as analyse-post}
-use Rattle.analysis.proofs.word.Reads.{Post as word-post}
-
-pub judge-with-determined : (κs a r r' s s' : _) → judge-with-post κs a r s → judge-with-post κs a r' s' → r ≡ r'
-judge-with-determined κs a r r' s s' p q = p ∙ sym q
 
 pub analyse-determined :
     (κs a r r' s s' : _) → analyse-post κs a r s → analyse-post κs a r' s'
     → (r ≡ r') × (now (s .1 .1 .1 .1 .0) ≡ now (s' .1 .1 .1 .1 .0))
 analyse-determined κs a r r' s s' p q = (p .0 ∙ sym (q .0), p .1 ∙ sym (q .1))
-
-pub word-determined : (κs a r r' s s' : _) → word-post κs a r s → word-post κs a r' s' → r ≡ r'
-word-determined κs a r r' s s' p q = p ∙ sym q

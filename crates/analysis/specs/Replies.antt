@@ -1,23 +1,17 @@
 -- What the analysis replies, and what it leaves in the lent matrix.
-use mathlib.Core.Bool.{cond, _&&_}
 use mathlib.Core.List.{List, _++_}
 use Prim.Native.Nat.{ℕ, _*_}
-use lib.Dec.{ltb}
 use lib.ListN.{length, drop}
 use Rattle.labels.specs.Matrix.{matrixWords}
 use Rattle.calculus.specs.Syntax.{Program}
-use Rattle.recipe.specs.Rules.{lowest, sizesRight, judged}
+use Rattle.recipe.specs.Rules.{lowest, judgedWith}
 use Rattle.recipe.specs.Statements.{programOf}
-use Rattle.recipe.specs.Tables.{Table, rows, procs}
-use Rattle.recipe.specs.declared.Refusal.the-variants.{ShortMatrix}
+use Rattle.recipe.specs.Tables.{Table}
 use Rattle.recipe.specs.declared.Judged.{Judged}
 use Rattle.recipe.specs.declared.Judged.the-variants.{Admitted, Refused}
 use Rattle.analysis.specs.Rounds.{after, settled}
 use Rattle.analysis.specs.declared.Analysed.{Analysed}
 use Rattle.analysis.specs.declared.Analysed.the-variants as reply
-use Rattle.analysis.specs.declared.Worded.{Worded}
-use Rattle.analysis.specs.declared.Worded.the-variants as word
-use Rattle.analysis.specs.Reached.{wide}
 
 -- The first round that repeats. It is found within 3 rounds a procedure.
 unfoldable pub rounds : ℕ → Program → ℕ
@@ -26,11 +20,6 @@ rounds w p = lowest (3 * length p) (settled w p)
 -- Main's pairs in that round.
 abbrev pub mainPairs : ℕ → Program → List ℕ
 mainPairs w p = after w p (rounds w p) 0 .M
-
--- The judge's reply, where a matrix that is too short is refused after wrong sizes and before all else.
-unfoldable pub judgedWith : Table → ℕ → Judged
-judgedWith t words =
-    cond (sizesRight (rows t) (length (t .xs)) (length (t .ys)) (procs t) && ltb words (matrixWords 1)) (Refused ShortMatrix) (judged t)
 
 -- The rounds of an admitted table, and the refusal of any other.
 abbrev pub analysedAs : Program → Judged → Analysed
@@ -49,12 +38,3 @@ analysed t words = analysedAs (programOf t) (judgedWith t words)
 -- What the lent matrix holds afterwards.
 unfoldable pub matrixAfter : Table → List ℕ → List ℕ
 matrixAfter t m = matrixAs (programOf t) m (judgedWith t (length m))
-
--- The word of an admitted table, and the refusal of any other.
-abbrev pub wordedAs : Program → Judged → Worded
-wordedAs p Admitted = cond (wide p) word.Wide word.Exact
-wordedAs p (Refused r) = word.Refused r
-
--- The reply to the question for the word.
-unfoldable pub worded : Table → Worded
-worded t = wordedAs (programOf t) (judged t)

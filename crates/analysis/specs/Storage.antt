@@ -1,25 +1,19 @@
 -- What the code's words and arrays hold. Only the contracts of inner functions speak of these.
-use mathlib.Core.Bool.{Bool}
 use mathlib.Core.Path.{_≡_}
 use mathlib.Core.List.{List, [], _∷_}
 use mathlib.Core.Logic.{_≢_}
 use Prim.Native.Nat.{ℕ, _*_, _≤_, _<_}
 use lib.ListN.{length, getD, take, drop}
-use Rattle.labels.specs.Words.{Words, bit, oneIf}
+use Rattle.labels.specs.Words.{Words}
 use Rattle.labels.specs.Sets.{union}
 use Rattle.labels.specs.Matrix.{matrixWords, merged, crossed}
-use Rattle.calculus.specs.Syntax.{Program}
-use Rattle.recipe.specs.Ceilings.{procCeiling}
-use Rattle.recipe.specs.Tables.{Table, tableOf}
+use Rattle.numbers.specs.Ceilings.{procCeiling}
+use Rattle.recipe.specs.Alone.{rowsAlone, OfAdmitted}
+use Rattle.recipe.specs.Tables.{tableOf}
 use Rattle.recipe.specs.Rules.{admitted}
 use Rattle.recipe.specs.Statements.{statementAt}
 use Rattle.analysis.specs.Summaries.{WordSummary, wordsOf}
-use Rattle.analysis.specs.Reached.{reached}
 use Rattle.analysis.specs.declared.summary.Summary.{Summary}
-
--- The rows alone: a row's statement does not depend on the roots.
-abbrev pub rowsAlone : List ℕ → List ℕ → List ℕ → Table
-rowsAlone kinds xs ys = tableOf kinds xs ys []
 
 -- n words.
 pub record Sized (n : ℕ) (s : List ℕ) : Type 0 where
@@ -31,11 +25,6 @@ pub record Shaped (w : ℕ) (x : WordSummary) : Type 0 where
   pub O : Sized w (x .O)
   pub L : Sized w (x .L)
   pub M : Sized (matrixWords w) (x .M)
-
--- The rows are those of some admitted table.
-pub record OfAdmitted (kinds xs ys : List ℕ) : Type 0 where
-  pub roots : List ℕ
-  pub ok : admitted (tableOf kinds xs ys roots)
 
 -- The summary that the code hands back, with the matrix that it was lent.
 abbrev pub summaryWords : Summary → List ℕ → WordSummary
@@ -103,11 +92,3 @@ pub record StoredBelow (newos newls newms oldos oldls oldms : List ℕ) (n : ℕ
 abbrev pub bodyWords : List ℕ → List ℕ → List ℕ → List ℕ → List ℕ → List ℕ → List ℕ → ℕ → WordSummary
 bodyWords kinds xs ys roots os ls ms f =
     wordsOf 1 (heldFor os ls ms) (statementAt (rowsAlone kinds xs ys) (getD roots f 0))
-
--- Bit g of the word, for each procedure that may be there, says whether the test passes.
-pub record BitsAre (x : ℕ) (test : ℕ → Bool) : Type 0 where
-  pub bits : (g : ℕ) → g < procCeiling → bit x g ≡ oneIf (test g)
-
--- The words say of the first n procedures which they reach with only procedures below k between.
-pub record Reaching (reach : List ℕ) (p : Program) (n k : ℕ) : Type 0 where
-  pub word : (f : ℕ) → f < n → BitsAre (getD reach f 0) (reached p k f)

@@ -4,19 +4,20 @@ ghost use Prim.Native.Nat.{_<_, _≤_};
 ghost use mathlib.Core.List.{_++_};
 ghost use lib.ListN.{length, drop};
 ghost use Rattle.labels.specs.Matrix.{matrixWords};
-ghost use Rattle.recipe.specs.Ceilings.{procCeiling};
+ghost use Rattle.numbers.specs.Ceilings.{procCeiling};
 ghost use Rattle.recipe.specs.Tables.{tableOf};
 ghost use Rattle.recipe.specs.Rules.{admitted};
 ghost use Rattle.recipe.specs.Statements.{statementAt, programOf};
 ghost use Rattle.analysis.specs.Summaries.{wordsOf};
 ghost use Rattle.analysis.specs.Rounds.{every, sameWords};
 ghost use Rattle.analysis.specs.Replies.{rounds, mainPairs};
-ghost use Rattle.analysis.specs.Storage.{rowsAlone, Ready, Turn, Sizes, Stored, StoredBelow, summaryWords, heldFor, bodyWords};
+ghost use Rattle.recipe.specs.Alone.{rowsAlone};
+ghost use Rattle.analysis.specs.Storage.{Ready, Turn, Sizes, Stored, StoredBelow, summaryWords, heldFor, bodyWords};
 use crate::rows::row_summary;
 use crate::summary::Summary;
 use labels::Label;
 use labels::matrix;
-use recipe::ProcNumber;
+use numbers::ProcNumber;
 
 // The summary of a body, its pairs alone in the lent matrix.
 fn body_summary(

@@ -3,14 +3,15 @@ ghost use mathlib.Core.Path.{_≡_};
 ghost use Prim.Native.Nat.{_<_, _*_};
 ghost use lib.ListN.{length};
 ghost use Rattle.labels.specs.Matrix.{matrixWords};
-ghost use Rattle.recipe.specs.Ceilings.{procCeiling};
+ghost use Rattle.numbers.specs.Ceilings.{procCeiling};
 ghost use Rattle.recipe.specs.Statements.{statementAt};
 ghost use Rattle.analysis.specs.Summaries.{wordsOf};
-ghost use Rattle.analysis.specs.Storage.{rowsAlone, Sizes, Ready, summaryWords, sequenced, repeated, markedInto, heldFor};
+ghost use Rattle.recipe.specs.Alone.{rowsAlone};
+ghost use Rattle.analysis.specs.Storage.{Sizes, Ready, summaryWords, sequenced, repeated, markedInto, heldFor};
 use crate::summary::Summary;
 use labels::Label;
 use labels::matrix;
-use recipe::ProcNumber;
+use numbers::ProcNumber;
 
 // Two statements one after the other: what the first leaves running meets what the second runs.
 fn sequence(pairs: &mut [u64], first: Summary, second: Summary) -> Summary

@@ -1,11 +1,11 @@
 // Runs the analysis on recipes that document 01 leaves to a run, and writes a line for each: its name, the rounds, the word and the number of pairs, or the refusal.
 use analysis::Analysed;
-use analysis::Worded;
 use labels::Label;
 use libc::STDOUT_FILENO;
-use recipe::ProcNumber;
-use recipe::Refusal;
-use recipe::RowNumber;
+use numbers::ProcNumber;
+use numbers::Refusal;
+use numbers::RowNumber;
+use word::Worded;
 
 // Writes a tab and a number.
 fn field(n: u32) {
@@ -40,7 +40,7 @@ fn case(name: &[u8], kinds: &[u8], xs: &[u16], ys: &[u16], roots: &[u16]) {
     match analysis::analyse(kinds, xs, ys, roots, &mut matrix) {
         Analysed::Rounds(k) => {
             field(k);
-            write_word(analysis::word(kinds, xs, ys, roots));
+            write_word(word::word(kinds, xs, ys, roots));
             field(labels::matrix::count(&matrix));
         }
         Analysed::Refused(r) => refused(r),
@@ -58,24 +58,12 @@ fn part(
     roots: &[u16],
     procs: usize,
 ) {
-    if kinds.len() < rows {
-        return;
-    }
-    if xs.len() < rows {
-        return;
-    }
-    if ys.len() < rows {
-        return;
-    }
-    if roots.len() < procs {
-        return;
-    }
     case(
         name,
-        &kinds[..rows],
-        &xs[..rows],
-        &ys[..rows],
-        &roots[..procs],
+        front::bytes(kinds, rows),
+        front::numbers(xs, rows),
+        front::numbers(ys, rows),
+        front::numbers(roots, procs),
     );
 }
 

@@ -13,17 +13,21 @@ use Rattle.calculus.specs.Syntax.{Program}
 use Rattle.recipe.specs.Tables.{Table}
 use Rattle.recipe.specs.Rules.{admitted}
 use Rattle.recipe.specs.Statements.{programOf}
-use Rattle.recipe.specs.declared.Refusal.{Refusal}
-use Rattle.recipe.specs.declared.Refusal.the-variants.{LongListing}
+use Rattle.numbers.specs.declared.Refusal.{Refusal}
+use Rattle.numbers.specs.declared.Refusal.the-variants.{LongListing}
 use Rattle.recipe.specs.declared.Judged.the-variants.{Admitted, Refused}
 use Rattle.recipe.proofs.Judging.{sizes-test}
 use Rattle.recipe.proofs.Admitted.{admitted-kept}
-use Rattle.analysis.specs.Reached.{wide}
-use Rattle.analysis.specs.Replies.{rounds, mainPairs, judgedWith, analysed, matrixAfter, worded}
+use Rattle.word.specs.Reached.{wide}
+use Rattle.analysis.specs.Replies.{rounds, mainPairs, analysed, matrixAfter}
+use Rattle.recipe.specs.Rules.{judgedWith}
+use Rattle.word.specs.Replies.{worded}
 use Rattle.analysis.specs.declared.Analysed.the-variants as analysis
-use Rattle.analysis.specs.declared.Worded.{Worded}
-use Rattle.analysis.specs.declared.Worded.the-variants as word
-use Rattle.analysis.proofs.ReplyLaws.{whole-matrix, admitted-reply, admitted-word}
+use Rattle.word.specs.declared.Worded.{Worded}
+use Rattle.word.specs.declared.Worded.the-variants as word
+use Rattle.recipe.proofs.WithMatrix.{whole-matrix}
+use Rattle.analysis.proofs.ReplyLaws.{admitted-reply}
+use Rattle.word.proofs.ReplyLaws.{admitted-word}
 use Rattle.listing.specs.Listing.{listing}
 use Rattle.listing.specs.Replies.{listingOf, fitted, listedAs, heldAfter, inFront, listed, matrixListed, bytesListed}
 use Rattle.listing.specs.declared.Listed.{Listed}

@@ -18,17 +18,18 @@ use Rattle.text.proofs.SpelledLaws.{spelled-alone, spelled-short, spelled-four}
 use Rattle.recipe.specs.Tables.{Table}
 use Rattle.recipe.specs.Rules.{admitted}
 use Rattle.recipe.specs.Statements.{programOf}
-use Rattle.recipe.specs.declared.Refusal.{Refusal}
-use Rattle.recipe.specs.declared.Refusal.the-variants.{LongListing}
+use Rattle.numbers.specs.declared.Refusal.{Refusal}
+use Rattle.numbers.specs.declared.Refusal.the-variants.{LongListing}
 use Rattle.recipe.specs.declared.Judged.{Judged}
 use Rattle.recipe.specs.declared.Judged.the-variants.{Admitted, Refused}
 use Rattle.recipe.proofs.Lowest.{lowest-within}
 use Rattle.recipe.proofs.Readings.{program-length}
 use Rattle.recipe.proofs.Admitted.{sizes-right}
 use Rattle.analysis.specs.Rounds.{settled}
-use Rattle.analysis.specs.Reached.{wide}
-use Rattle.analysis.specs.Replies.{rounds, mainPairs, judgedWith, matrixAfter}
-use Rattle.analysis.proofs.ReplyLaws.{admitted-with}
+use Rattle.word.specs.Reached.{wide}
+use Rattle.analysis.specs.Replies.{rounds, mainPairs, matrixAfter}
+use Rattle.recipe.specs.Rules.{judgedWith}
+use Rattle.recipe.proofs.WithMatrix.{admitted-with}
 use Rattle.listing.specs.Pairs.{Pair, pairAt, pairsOf, pairs}
 use Rattle.listing.specs.Listing.{opening, pairLine, lines, listing}
 use Rattle.listing.specs.Replies.{listingOf, fitted, listedAs, heldAfter, inFront, listed, matrixListed, bytesListed}

@@ -7,11 +7,12 @@ use lib.ListN.{length, drop}
 use Rattle.calculus.specs.Syntax.{Program}
 use Rattle.recipe.specs.Statements.{programOf}
 use Rattle.recipe.specs.Tables.{Table}
-use Rattle.recipe.specs.declared.Refusal.the-variants.{LongListing}
+use Rattle.numbers.specs.declared.Refusal.the-variants.{LongListing}
 use Rattle.recipe.specs.declared.Judged.{Judged}
 use Rattle.recipe.specs.declared.Judged.the-variants.{Admitted, Refused}
-use Rattle.analysis.specs.Reached.{wide}
-use Rattle.analysis.specs.Replies.{rounds, mainPairs, judgedWith, matrixAfter}
+use Rattle.word.specs.Reached.{wide}
+use Rattle.analysis.specs.Replies.{rounds, mainPairs, matrixAfter}
+use Rattle.recipe.specs.Rules.{judgedWith}
 use Rattle.listing.specs.Listing.{listing}
 use Rattle.listing.specs.declared.Listed.{Listed}
 use Rattle.listing.specs.declared.Listed.the-variants as reply

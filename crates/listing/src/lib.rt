@@ -7,7 +7,7 @@ ghost use Rattle.labels.specs.Matrix.{matrixWords, pairsAtOrAbove};
 ghost use Rattle.recipe.specs.Tables.{tableOf};
 ghost use Rattle.recipe.specs.Rules.{admitted};
 ghost use Rattle.recipe.specs.Statements.{programOf};
-ghost use Rattle.analysis.specs.Reached.{wide};
+ghost use Rattle.word.specs.Reached.{wide};
 ghost use Rattle.analysis.specs.Replies.{mainPairs};
 ghost use Rattle.listing.specs.Listing.{listing};
 ghost use Rattle.listing.specs.Replies.{listingOf, fitted, heldAfter, inFront, listed, matrixListed, bytesListed};
@@ -17,10 +17,10 @@ mod fields;
 mod lines;
 
 use analysis::Analysed;
-use analysis::Worded;
 use labels::Label;
+use numbers::Refusal;
 use recipe::Judged;
-use recipe::Refusal;
+use word::Worded;
 
 // What listing the pairs replies: the listing's length in bytes, or the refusal.
 pub enum Listed {
@@ -33,7 +33,7 @@ fn is_wide(kinds: &[u8], xs: &[u16], ys: &[u16], roots: &[u16]) -> bool
     requires { ⌜ admitted (tableOf (now kinds) (now xs) (now ys) (now roots)) ⌝ }
     ensures { λ r. ⌜ r ≡ wide (programOf (tableOf (now (kinds .entry)) (now (xs .entry)) (now (ys .entry)) (now (roots .entry)))) ⌝ }
 {
-    match analysis::word(kinds, xs, ys, roots) {
+    match word::word(kinds, xs, ys, roots) {
         Worded::Wide => true,
         Worded::Exact => false,
         Worded::Refused(_) => false,
@@ -114,7 +114,7 @@ pub fn list_pairs(
     ensures { λ _. ⌜ now (matrix .exit) ≡ matrixListed (tableOf (now (kinds .entry)) (now (xs .entry)) (now (ys .entry)) (now (roots .entry))) (now (matrix .entry)) (length (now (bytes .entry))) ⌝ }
     ensures { λ _. ⌜ now (bytes .exit) ≡ bytesListed (tableOf (now (kinds .entry)) (now (xs .entry)) (now (ys .entry)) (now (roots .entry))) (length (now (matrix .entry))) (now (bytes .entry)) ⌝ }
 {
-    match analysis::judge_with(kinds, xs, ys, roots, matrix.len()) {
+    match recipe::judge_with(kinds, xs, ys, roots, matrix.len()) {
         Judged::Refused(r) => Listed::Refused(r),
         Judged::Admitted => list_admitted(matrix, bytes, kinds, xs, ys, roots),
     }

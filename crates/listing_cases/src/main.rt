@@ -3,7 +3,7 @@
 use labels::Label;
 use libc::STDOUT_FILENO;
 use listing::Listed;
-use recipe::Refusal;
+use numbers::Refusal;
 
 // The rows of a recipe in which all labels meet.
 const ROWS: usize = 2 * Label::CEILING + 1;
@@ -21,9 +21,7 @@ fn refused(refusal: Refusal) {
 fn show(reply: Listed, bytes: &[u8]) {
     match reply {
         Listed::Length(n) => {
-            if n <= bytes.len() {
-                io::write_all(STDOUT_FILENO, &bytes[..n]);
-            }
+            io::write_all(STDOUT_FILENO, front::bytes(bytes, n));
         }
         Listed::Refused(refusal) => refused(refusal),
     }

@@ -1,8 +1,8 @@
 -- How a reply is one number for a caller in C: the refusal's number times 2^32, and a value. Number 0 is success.
 use Prim.Native.Nat.{ℕ, _+_, _*_, _^_, _≤_}
-use Rattle.recipe.specs.Ceilings.{rowCeiling, procCeiling}
-use Rattle.recipe.specs.Refusals.{refusalNumber, refusalPlace}
-use Rattle.recipe.specs.declared.Refusal.{Refusal}
+use Rattle.numbers.specs.Ceilings.{rowCeiling, procCeiling}
+use Rattle.numbers.specs.Refusals.{refusalNumber, refusalPlace}
+use Rattle.numbers.specs.declared.Refusal.{Refusal}
 use Rattle.analysis.specs.declared.Analysed.{Analysed}
 use Rattle.analysis.specs.declared.Analysed.the-variants as analysed
 use Rattle.sheet.specs.declared.Read.{Read}

@@ -9,7 +9,7 @@ ghost use Rattle.listing.specs.Replies.{listed, matrixListed, bytesListed};
 ghost use Rattle.panel.specs.Codes.{refusalCode, analysedCode, readCode, listedCode, WithinCeilings};
 use analysis::Analysed;
 use listing::Listed;
-use recipe::Refusal;
+use numbers::Refusal;
 use sheet::Read;
 
 // A refusal as one number.

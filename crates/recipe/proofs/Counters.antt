@@ -11,7 +11,7 @@ use lib.Dec.{eqb, ltb}
 use lib.ListN.{length, getD, set, length-set, replicate, length-replicate, getD-replicate}
 use lib.Seq.{getD-set-same, getD-set-other}
 use Rattle.labels.specs.Words.{oneIf}
-use Rattle.recipe.specs.Ceilings.{rowCeiling}
+use Rattle.numbers.specs.Ceilings.{rowCeiling}
 use Rattle.recipe.specs.Tables.{kindOf}
 use Rattle.recipe.specs.Rules.{lowest, usesBy}
 use Rattle.recipe.specs.Counting.{Counts}

@@ -8,7 +8,7 @@ use Rattle.calculus.specs.Syntax.{Stmt}
 use Rattle.recipe.specs.Tables.{Table, tableOf}
 use Rattle.recipe.specs.Rules.{lowest, sizesRight, operandsRight, usesBy, refusedAt, judged, admitted}
 use Rattle.recipe.specs.Statements.{rowStatement, statementTo, statementAt, programOf}
-use Rattle.recipe.specs.declared.Refusal.the-variants.{Sizes, UnknownKind, WrongOperand, NoSuchRow, UsedAgain, Unused}
+use Rattle.numbers.specs.declared.Refusal.the-variants.{Sizes, UnknownKind, WrongOperand, NoSuchRow, UsedAgain, Unused}
 use Rattle.recipe.specs.declared.Judged.the-variants.{Refused}
 
 -- A table of one row, which is main.

@@ -7,11 +7,11 @@ use native.Mathlib.Omega.{arith}
 use borrow.Author.Tests.{lt-ltb, le-ltb, le-leb, eq-eqb, ltb-false, leb-true, eqb-true}
 use lib.Dec.{ltb, leb, eqb}
 use lib.ListN.{length}
-use Rattle.recipe.specs.Ceilings.{rowCeiling, procCeiling}
+use Rattle.numbers.specs.Ceilings.{rowCeiling, procCeiling}
 use Rattle.recipe.specs.Tables.{Table, rows, procs, kindAt, rootAt}
 use Rattle.recipe.specs.Rules.{lowest, fromOneTo, sizesRight, kindUnknown, operandWrong, rootMissing, usedAgain, unused, refusedAt, judged}
-use Rattle.recipe.specs.declared.Refusal.{Refusal}
-use Rattle.recipe.specs.declared.Refusal.the-variants.{UnknownKind, WrongOperand, NoSuchRow, UsedAgain, Unused, Sizes}
+use Rattle.numbers.specs.declared.Refusal.{Refusal}
+use Rattle.numbers.specs.declared.Refusal.the-variants.{UnknownKind, WrongOperand, NoSuchRow, UsedAgain, Unused, Sizes}
 use Rattle.recipe.specs.declared.Judged.{Judged}
 use Rattle.recipe.specs.declared.Judged.the-variants.{Admitted, Refused}
 use Rattle.recipe.proofs.Operands.{and-first, and-second}

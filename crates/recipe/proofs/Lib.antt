@@ -7,5 +7,6 @@ pub mod Judging
 pub mod Admitted
 pub mod Readings
 pub mod Bodies
-pub mod Refusals
 pub mod Unique
+pub mod AloneLaws
+pub mod WithMatrix

@@ -1,31 +1,15 @@
 -- Each contract leaves one reply: it is an equation for the reply.
 -- Assumes nothing.
 use mathlib.Core.Path.{_≡_, sym, _∙_}
+use Rattle.recipe.proofs.judge_with.Reads.{Post as judge-with-post}
 use Rattle.recipe.proofs.judge.Reads.{Post as judge-post}
 use Rattle.recipe.proofs.sizes_right.Reads.{Post as sizes-right-post}
-use Rattle.recipe.proofs.Refusal.number.Reads.{Post as number-post}
-use Rattle.recipe.proofs.Refusal.place.Reads.{Post as place-post}
-use Rattle.recipe.proofs.RowNumber.ceiling.Reads.{Post as row-ceiling-post}
-use Rattle.recipe.proofs.ProcNumber.ceiling.Reads.{Post as proc-ceiling-post}
-use Rattle.recipe.proofs.SheetSize.ceiling.Reads.{Post as sheet-ceiling-post}
 
 pub judge-determined : (κs a r r' s s' : _) → judge-post κs a r s → judge-post κs a r' s' → r ≡ r'
 judge-determined κs a r r' s s' p q = p ∙ sym q
 
-pub number-determined : (κs a r r' s s' : _) → number-post κs a r s → number-post κs a r' s' → r ≡ r'
-number-determined κs a r r' s s' p q = p ∙ sym q
-
-pub place-determined : (κs a r r' s s' : _) → place-post κs a r s → place-post κs a r' s' → r ≡ r'
-place-determined κs a r r' s s' p q = p ∙ sym q
-
-pub row-ceiling-determined : (κs a r r' s s' : _) → row-ceiling-post κs a r s → row-ceiling-post κs a r' s' → r ≡ r'
-row-ceiling-determined κs a r r' s s' p q = p ∙ sym q
-
-pub proc-ceiling-determined : (κs a r r' s s' : _) → proc-ceiling-post κs a r s → proc-ceiling-post κs a r' s' → r ≡ r'
-proc-ceiling-determined κs a r r' s s' p q = p ∙ sym q
-
-pub sheet-ceiling-determined : (κs a r r' s s' : _) → sheet-ceiling-post κs a r s → sheet-ceiling-post κs a r' s' → r ≡ r'
-sheet-ceiling-determined κs a r r' s s' p q = p ∙ sym q
-
 pub sizes-right-determined : (κs a r r' s s' : _) → sizes-right-post κs a r s → sizes-right-post κs a r' s' → r ≡ r'
 sizes-right-determined κs a r r' s s' p q = p ∙ sym q
+
+pub judge-with-determined : (κs a r r' s s' : _) → judge-with-post κs a r s → judge-with-post κs a r' s' → r ≡ r'
+judge-with-determined κs a r r' s s' p q = p ∙ sym q

@@ -3,7 +3,7 @@ use Prim.Native.Nat.{ℕ, _<_, min}
 use mathlib.Core.List.{List}
 use mathlib.Core.Path.{_≡_}
 use lib.ListN.{length, getD}
-use Rattle.recipe.specs.Ceilings.{rowCeiling}
+use Rattle.numbers.specs.Ceilings.{rowCeiling}
 
 -- There is a counter for each row number, and it holds how often the number was met, where two stands for two and more.
 abbrev pub Counts : List ℕ → (ℕ → ℕ) → Type 0

@@ -5,11 +5,12 @@ use mathlib.Core.Bool.{Bool, false, cond, not, _&&_}
 use lib.ListN.{length}
 use lib.Dec.{eqb, ltb, leb}
 use Rattle.labels.specs.Words.{oneIf, sumBelow}
+use Rattle.labels.specs.Matrix.{matrixWords}
 use Rattle.labels.specs.Sets.{ceiling}
-use Rattle.recipe.specs.Ceilings.{rowCeiling, procCeiling}
+use Rattle.numbers.specs.Ceilings.{rowCeiling, procCeiling}
 use Rattle.recipe.specs.Tables.{Table, Kind, kindOf, rows, procs, kindAt, xAt, yAt, rootAt}
-use Rattle.recipe.specs.declared.Refusal.{Refusal}
-use Rattle.recipe.specs.declared.Refusal.the-variants.{Sizes, UnknownKind, WrongOperand, NoSuchRow, UsedAgain, Unused}
+use Rattle.numbers.specs.declared.Refusal.{Refusal}
+use Rattle.numbers.specs.declared.Refusal.the-variants.{Sizes, ShortMatrix, UnknownKind, WrongOperand, NoSuchRow, UsedAgain, Unused}
 use Rattle.recipe.specs.declared.Judged.{Judged}
 use Rattle.recipe.specs.declared.Judged.the-variants.{Admitted, Refused}
 
@@ -97,3 +98,8 @@ judged t =
 -- The table is admitted.
 abbrev pub admitted : Table → Type 0
 admitted t = judged t ≡ Admitted
+
+-- The judge's reply, where a matrix that is too short is refused after wrong sizes and before all else.
+unfoldable pub judgedWith : Table → ℕ → Judged
+judgedWith t words =
+    cond (sizesRight (rows t) (length (t .xs)) (length (t .ys)) (procs t) && ltb words (matrixWords 1)) (Refused ShortMatrix) (judged t)

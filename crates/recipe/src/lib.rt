@@ -1,12 +1,14 @@
-// The recipe table: its rows, what numbers them, the ceilings, and the judge that admits a table or refuses it.
+// The recipe table: its rows, and the judge that admits a table or refuses it.
 mod rules;
 mod usage;
 
 ghost use mathlib.Core.Path.{_≡_};
-ghost use Rattle.recipe.specs.Ceilings.{rowCeiling, procCeiling, sheetCeiling};
-ghost use Rattle.recipe.specs.Refusals.{refusalNumber, refusalPlace};
 ghost use Rattle.recipe.specs.Tables.{tableOf};
-ghost use Rattle.recipe.specs.Rules.{sizesRight, judged};
+ghost use Rattle.recipe.specs.Rules.{sizesRight, judged, judgedWith};
+use labels::Label;
+use numbers::ProcNumber;
+use numbers::Refusal;
+use numbers::RowNumber;
 
 // A row of the table: its kind, from 0 to 6, and two operands. C declares the same record.
 #[repr(C)]
@@ -14,120 +16,6 @@ pub struct Row {
     pub kind: u8,
     pub x: u16,
     pub y: u16,
-}
-
-// The number of a row. It is no procedure number and no label.
-pub struct RowNumber(pub u16);
-
-impl RowNumber {
-    // A table has at most this many rows.
-    pub const CEILING: usize = 1024;
-
-    // The ceiling, as the definitions have it.
-    pub fn ceiling() -> usize
-        ensures { λ r. ⌜ r ≡ rowCeiling ⌝ }
-    {
-        RowNumber::CEILING
-    }
-}
-
-// The number of a procedure. Procedure 0 is main.
-pub struct ProcNumber(pub u16);
-
-impl ProcNumber {
-    // A table has at most this many procedures.
-    pub const CEILING: usize = 64;
-
-    // The ceiling, as the definitions have it.
-    pub fn ceiling() -> usize
-        ensures { λ r. ⌜ r ≡ procCeiling ⌝ }
-    {
-        ProcNumber::CEILING
-    }
-}
-
-// The number of a sheet's line, counted from 0.
-pub struct LineNumber(pub u32);
-
-// The number of bytes of a sheet.
-pub struct SheetSize(pub usize);
-
-impl SheetSize {
-    // A sheet has at most this many bytes.
-    pub const CEILING: usize = 65536;
-
-    // The ceiling, as the definitions have it.
-    pub fn ceiling() -> usize
-        ensures { λ r. ⌜ r ≡ sheetCeiling ⌝ }
-    {
-        SheetSize::CEILING
-    }
-}
-
-// Every reply that refuses, with the place that it names.
-pub enum Refusal {
-    // No rows or procedures, too many of them, or slices that differ in length.
-    Sizes,
-    // The lent matrix has too few words.
-    ShortMatrix,
-    // The row's kind is none of the seven.
-    UnknownKind(RowNumber),
-    // An operand of the row breaks the rule of its kind.
-    WrongOperand(RowNumber),
-    // The procedure's root is not a row.
-    NoSuchRow(ProcNumber),
-    // The row is used more than once.
-    UsedAgain(RowNumber),
-    // The row is used by nobody.
-    Unused(RowNumber),
-    // The sheet has too many bytes.
-    LongSheet,
-    // The line breaks the sheet's form.
-    WrongForm(LineNumber),
-    // The line is one row or procedure more than there is room for.
-    NoRoom(LineNumber),
-    // The listing does not fit the lent bytes.
-    LongListing,
-}
-
-impl Refusal {
-    // The number under which the reply is published.
-    pub fn number(self) -> u32
-        ensures { λ r. ⌜ r ≡ refusalNumber self ⌝ }
-    {
-        match self {
-            Refusal::Sizes => 1,
-            Refusal::ShortMatrix => 2,
-            Refusal::UnknownKind(_) => 3,
-            Refusal::WrongOperand(_) => 4,
-            Refusal::NoSuchRow(_) => 5,
-            Refusal::UsedAgain(_) => 6,
-            Refusal::Unused(_) => 7,
-            Refusal::LongSheet => 11,
-            Refusal::WrongForm(_) => 12,
-            Refusal::NoRoom(_) => 13,
-            Refusal::LongListing => 14,
-        }
-    }
-
-    // The place that the reply names, and 0 where it names none.
-    pub fn place(self) -> u32
-        ensures { λ r. ⌜ r ≡ refusalPlace self ⌝ }
-    {
-        match self {
-            Refusal::UnknownKind(row) => row.0 as u32,
-            Refusal::WrongOperand(row) => row.0 as u32,
-            Refusal::NoSuchRow(proc) => proc.0 as u32,
-            Refusal::UsedAgain(row) => row.0 as u32,
-            Refusal::Unused(row) => row.0 as u32,
-            Refusal::WrongForm(line) => line.0,
-            Refusal::NoRoom(line) => line.0,
-            Refusal::Sizes => 0,
-            Refusal::ShortMatrix => 0,
-            Refusal::LongSheet => 0,
-            Refusal::LongListing => 0,
-        }
-    }
 }
 
 // What the judge replies.
@@ -192,4 +80,17 @@ pub fn judge(kinds: &[u8], xs: &[u16], ys: &[u16], roots: &[u16]) -> Judged
         return Judged::Refused(Refusal::Unused(RowNumber(unused as u16)));
     }
     Judged::Admitted
+}
+
+// Judges a table for whoever is lent a matrix of so many words: wrong sizes first, then a matrix that is too short, then the rest.
+pub fn judge_with(kinds: &[u8], xs: &[u16], ys: &[u16], roots: &[u16], words: usize) -> Judged
+    ensures { λ r. ⌜ r ≡ judgedWith (tableOf (now (kinds .entry)) (now (xs .entry)) (now (ys .entry)) (now (roots .entry))) words ⌝ }
+{
+    if !sizes_right(kinds.len(), xs.len(), ys.len(), roots.len()) {
+        return Judged::Refused(Refusal::Sizes);
+    }
+    if words < Label::CEILING {
+        return Judged::Refused(Refusal::ShortMatrix);
+    }
+    judge(kinds, xs, ys, roots)
 }

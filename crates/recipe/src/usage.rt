@@ -6,7 +6,7 @@ ghost use mathlib.Core.Path.{_≡_};
 ghost use lib.Dec.{eqb};
 ghost use lib.ListN.{length, getD};
 ghost use Rattle.labels.specs.Words.{oneIf};
-ghost use Rattle.recipe.specs.Ceilings.{rowCeiling};
+ghost use Rattle.numbers.specs.Ceilings.{rowCeiling};
 ghost use Rattle.recipe.specs.Tables.{kindOf, tableOf};
 ghost use Rattle.recipe.specs.Rules.{lowest, usesBy, childUses, rootUses};
 ghost use Rattle.recipe.specs.Counting.{Counts};

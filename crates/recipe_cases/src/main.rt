@@ -2,9 +2,9 @@
 // place, or 0 and 0 where the table is admitted.
 use labels::Label;
 use libc::STDOUT_FILENO;
+use numbers::ProcNumber;
+use numbers::RowNumber;
 use recipe::Judged;
-use recipe::ProcNumber;
-use recipe::RowNumber;
 
 // Writes the line of one reply.
 fn line(name: &[u8], number: u32, place: u32) {
@@ -36,24 +36,12 @@ fn part(
     roots: &[u16],
     procs: usize,
 ) {
-    if kinds.len() < rows {
-        return;
-    }
-    if xs.len() < firsts {
-        return;
-    }
-    if ys.len() < seconds {
-        return;
-    }
-    if roots.len() < procs {
-        return;
-    }
     case(
         name,
-        &kinds[..rows],
-        &xs[..firsts],
-        &ys[..seconds],
-        &roots[..procs],
+        front::bytes(kinds, rows),
+        front::numbers(xs, firsts),
+        front::numbers(ys, seconds),
+        front::numbers(roots, procs),
     );
 }
 

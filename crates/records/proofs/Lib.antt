@@ -1,4 +1,6 @@
 pub mod Agreement
+pub mod CopiedTable
+pub mod CopyCall
 pub mod Examples
 pub mod StoredColumns
 pub mod TooMany

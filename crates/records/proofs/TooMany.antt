@@ -1,4 +1,4 @@
--- More rows than a table can have are refused for their sizes, and leave the matrix, since the judge tries the sizes first.
+-- More rows than a table can have are refused for their sizes, and leave the matrix and the bytes, since the judge tries the sizes first.
 -- Assumes nothing.
 use mathlib.Core.Path.{_≡_, refl, sym}
 use mathlib.Core.Bool.{Bool, true, false}
@@ -6,16 +6,21 @@ use mathlib.Core.List.{List}
 use Prim.Native.Nat.{ℕ, _<_}
 use native.Mathlib.Omega.{arith}
 use lib.ListN.{length, length-map}
-use Rattle.recipe.specs.Ceilings.{rowCeiling}
+use Rattle.numbers.specs.Ceilings.{rowCeiling}
+use Rattle.recipe.specs.Records.{tableOfRows}
 use Rattle.recipe.specs.Rules.{sizesRight}
 use Rattle.recipe.specs.Tables.{Table, rows, procs}
+use Rattle.recipe.specs.declared.Judged.the-variants.{Refused}
+use Rattle.numbers.specs.declared.Refusal.the-variants.{Sizes}
 use Rattle.recipe.specs.declared.Row.{Row}
-use Rattle.recipe.specs.declared.Refusal.the-variants.{Sizes}
 use Rattle.recipe.proofs.Judging.{sized}
-use Rattle.analysis.specs.Replies.{analysed, matrixAfter}
-use Rattle.analysis.specs.declared.Analysed.the-variants as reply
-use Rattle.analysis.proofs.ReplyLaws.{wrong-sizes, refused-reply}
-use Rattle.recipe.specs.Records.{tableOfRows}
+use Rattle.recipe.specs.Rules.{judgedWith}
+use Rattle.analysis.specs.declared.Analysed.the-variants as analysis
+use Rattle.recipe.proofs.WithMatrix.{wrong-sizes}
+use Rattle.analysis.proofs.ReplyLaws.{refused-reply}
+use Rattle.listing.specs.declared.Listed.the-variants as listing
+use Rattle.listing.proofs.ReplyLaws.{refused-listing}
+use Rattle.records.specs.Records.{Answers, Lists}
 
 wrong : (t : Table) → rowCeiling < rows t → sizesRight (rows t) (length (t .xs)) (length (t .ys)) (procs t) ≡ false
 wrong t h = go (sizesRight (rows t) (length (t .xs)) (length (t .ys)) (procs t)) refl
@@ -24,9 +29,13 @@ wrong t h = go (sizesRight (rows t) (length (t .xs)) (length (t .ys)) (procs t))
     go true e = absurd (omega (arith, sized (rows t) (length (t .xs)) (length (t .ys)) (procs t) e .few-rows))
     go false e = refl
 
-pub too-many :
-    (rows : List Row) (roots m : List ℕ) → rowCeiling < length rows
-    → (reply.Refused Sizes ≡ analysed (tableOfRows rows roots) (length m)) × (m ≡ matrixAfter (tableOfRows rows roots) m)
-too-many rows roots m h =
-    let t = tableOfRows rows roots in
-    refused-reply t m (sym (wrong-sizes t (length m) (wrong t (omega (arith, length-map rows (λ (r : Row). r .kind))))))
+module _ (rows : List Row) (roots m : List ℕ) (h : rowCeiling < length rows) where
+  judged-so : judgedWith (tableOfRows rows roots) (length m) ≡ Refused Sizes
+  judged-so =
+      let t = tableOfRows rows roots in sym (wrong-sizes t (length m) (wrong t (omega (arith, length-map rows (λ (r : Row). r .kind)))))
+
+  pub too-many : Answers rows roots m (analysis.Refused Sizes) m
+  too-many = refused-reply (tableOfRows rows roots) m judged-so
+
+  pub too-many-listed : (b : List ℕ) → Lists rows roots m b (listing.Refused Sizes) m b
+  too-many-listed b = let said = refused-listing (tableOfRows rows roots) m b judged-so in (said .0, said .1 .0, said .1 .1)

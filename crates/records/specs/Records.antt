@@ -3,17 +3,26 @@ use mathlib.Core.Path.{_≡_}
 use mathlib.Core.List.{List}
 use Prim.Native.Nat.{ℕ, _≤_}
 use lib.ListN.{length, take}
-use Rattle.recipe.specs.Ceilings.{rowCeiling}
+use Rattle.numbers.specs.Ceilings.{rowCeiling}
 use Rattle.recipe.specs.Records.{kindsOf, xsOf, ysOf, tableOfRows}
 use Rattle.recipe.specs.declared.Row.{Row}
 use Rattle.analysis.specs.Replies.{analysed, matrixAfter}
 use Rattle.analysis.specs.declared.Analysed.{Analysed}
+use Rattle.listing.specs.Replies.{listed, matrixListed, bytesListed}
+use Rattle.listing.specs.declared.Listed.{Listed}
 use Rattle.records.specs.declared.Columns.{Columns}
 
 -- The reply r to these rows, these roots and the matrix m, and the matrix m' after it.
 abbrev pub Answers : List Row → List ℕ → List ℕ → Analysed → List ℕ → Type 0
 Answers rows roots m r m' =
     (r ≡ analysed (tableOfRows rows roots) (length m)) × (m' ≡ matrixAfter (tableOfRows rows roots) m)
+
+-- The listing's reply r to these rows, these roots, the matrix m and the bytes b, and the matrix m' and the bytes b' after it.
+abbrev pub Lists : List Row → List ℕ → List ℕ → List ℕ → Listed → List ℕ → List ℕ → Type 0
+Lists rows roots m b r m' b' =
+    (r ≡ listed (tableOfRows rows roots) (length m) (length b))
+    × (m' ≡ matrixListed (tableOfRows rows roots) m (length b))
+    × (b' ≡ bytesListed (tableOfRows rows roots) (length m) b)
 
 -- The columns begin with the fields of the rows, where a table can have that many.
 abbrev pub Copies : Columns → List Row → Type 0

@@ -1,17 +1,19 @@
-// The analysis on a lent slice of row records.
+// The analysis and the listing on a lent slice of row records.
 ghost use mathlib.Core.Path.{_≡_};
 ghost use mathlib.Core.List.{List};
 ghost use Prim.Native.Nat.{_≤_};
 ghost use lib.ListN.{length};
 ghost use Rattle.analysis.specs.Replies.{analysed, matrixAfter};
-ghost use Rattle.recipe.specs.Ceilings.{rowCeiling};
+ghost use Rattle.listing.specs.Replies.{listed, matrixListed, bytesListed};
+ghost use Rattle.numbers.specs.Ceilings.{rowCeiling};
 ghost use Rattle.recipe.specs.declared.Row.{Row};
 ghost use Rattle.recipe.specs.Records.{tableOfRows};
-ghost use Rattle.records.specs.Records.{Answers, Copies};
+ghost use Rattle.records.specs.Records.{Answers, Lists, Copies};
 use analysis::Analysed;
-use recipe::Refusal;
+use listing::Listed;
+use numbers::Refusal;
+use numbers::RowNumber;
 use recipe::Row;
-use recipe::RowNumber;
 
 // How many of so many lent rows are copied: all of them, and none where there are more than a table can have.
 fn rows_taken(lent: usize) -> usize
@@ -68,4 +70,35 @@ pub fn analyse_rows(rows: &[Row], roots: &[u16], matrix: &mut [u64]) -> Analysed
 {
     let all = copy_in(rows);
     analyse_copied(rows.len(), all, roots, matrix)
+}
+
+// The listing of n lent rows, whose fields are copied. More rows than a table can have are refused, as the listing refuses them.
+fn list_copied(
+    n: usize,
+    all: Columns,
+    roots: &[u16],
+    matrix: &mut [u64],
+    bytes: &mut [u8],
+) -> Listed
+    ensures { λ r. ⌜ ((rows : List Row) → length rows ≡ n → Copies all rows
+        → Lists rows (now (roots .entry)) (now (matrix .entry)) (now (bytes .entry)) r (now (matrix .exit)) (now (bytes .exit))) ⌝ }
+{
+    if RowNumber::CEILING < n {
+        return Listed::Refused(Refusal::Sizes);
+    }
+    let kinds = all.kinds;
+    let xs = all.xs;
+    let ys = all.ys;
+    listing::list_pairs(&kinds[..n], &xs[..n], &ys[..n], roots, matrix, bytes)
+}
+
+// Writes the listing of the recipe whose rows are these records to the front of the lent bytes, marks its pairs in the lent matrix, and
+// hands back the listing's length. What is refused, a listing that does not fit among it, leaves the bytes and the matrix as they were.
+pub fn list_rows(rows: &[Row], roots: &[u16], matrix: &mut [u64], bytes: &mut [u8]) -> Listed
+    ensures { λ r. ⌜ (r ≡ listed (tableOfRows (now (rows .entry)) (now (roots .entry))) (length (now (matrix .entry))) (length (now (bytes .entry))))
+        × (now (matrix .exit) ≡ matrixListed (tableOfRows (now (rows .entry)) (now (roots .entry))) (now (matrix .entry)) (length (now (bytes .entry))))
+        × (now (bytes .exit) ≡ bytesListed (tableOfRows (now (rows .entry)) (now (roots .entry))) (length (now (matrix .entry))) (now (bytes .entry))) ⌝ }
+{
+    let all = copy_in(rows);
+    list_copied(rows.len(), all, roots, matrix, bytes)
 }

@@ -7,10 +7,10 @@ use libc::STDERR_FILENO;
 use libc::STDIN_FILENO;
 use libc::STDOUT_FILENO;
 use listing::Listed;
-use recipe::ProcNumber;
-use recipe::Refusal;
-use recipe::RowNumber;
-use recipe::SheetSize;
+use numbers::ProcNumber;
+use numbers::Refusal;
+use numbers::RowNumber;
+use numbers::SheetSize;
 use sheet::Read;
 
 // What reading standard input comes to: so many bytes, or a failure.
@@ -81,10 +81,7 @@ fn refuse(refusal: Refusal) {
 
 // Writes the first so many bytes.
 fn put(bytes: &[u8], n: usize) {
-    if bytes.len() < n {
-        return;
-    }
-    if !io::write_all(STDOUT_FILENO, &bytes[..n]) {
+    if !io::write_all(STDOUT_FILENO, front::bytes(bytes, n)) {
         tell_output();
     }
 }
@@ -111,19 +108,12 @@ fn sheet_room() -> [u8; SheetSize::CEILING + 1] {
 
 // Lists the first so many rows and procedures.
 fn list_part(kinds: &[u8], xs: &[u16], ys: &[u16], rows: usize, roots: &[u16], procs: usize) {
-    if kinds.len() < rows {
-        return;
-    }
-    if xs.len() < rows {
-        return;
-    }
-    if ys.len() < rows {
-        return;
-    }
-    if roots.len() < procs {
-        return;
-    }
-    list(&kinds[..rows], &xs[..rows], &ys[..rows], &roots[..procs]);
+    list(
+        front::bytes(kinds, rows),
+        front::numbers(xs, rows),
+        front::numbers(ys, rows),
+        front::numbers(roots, procs),
+    );
 }
 
 // Reads a sheet and reports on it.
@@ -138,17 +128,10 @@ fn report(bytes: &[u8]) {
     }
 }
 
-// Reports on the first so many bytes.
-fn report_part(bytes: &[u8], n: usize) {
-    if n <= bytes.len() {
-        report(&bytes[..n]);
-    }
-}
-
 fn main() {
     let mut bytes = sheet_room();
     match take_in(&mut bytes) {
         Taken::Failed => tell(b"cannot read standard input"),
-        Taken::Bytes(n) => report_part(&bytes, n),
+        Taken::Bytes(n) => report(front::bytes(&bytes, n)),
     }
 }

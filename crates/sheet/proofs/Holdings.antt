@@ -6,7 +6,7 @@ use Prim.Native.Nat.{ℕ, _≤_}
 use native.Mathlib.Omega.{arith}
 use lib.ListN.{length, take, length-take}
 use lib.Seq.{length-take-le}
-use Rattle.recipe.specs.declared.Refusal.{Refusal}
+use Rattle.numbers.specs.declared.Refusal.{Refusal}
 use Rattle.sheet.specs.Reading.{Reading, table, refused, rowsOf, rootsOf, replyOf}
 use Rattle.sheet.specs.Steps.{Holding, rowCount, rootCount}
 use Rattle.sheet.specs.declared.Read.the-variants.{Stored, Refused}

@@ -11,9 +11,9 @@ use lib.Dec.{ltb}
 use lib.ListN.{length, take, drop, set, length-set}
 use lib.Seq.{take-suc-set}
 use borrow.Author.Tests.{lt-ltb, le-ltb}
-use Rattle.recipe.specs.Ceilings.{rowCeiling, procCeiling}
+use Rattle.numbers.specs.Ceilings.{rowCeiling, procCeiling}
 use Rattle.recipe.specs.declared.Row.{Row}
-use Rattle.recipe.specs.declared.Refusal.the-variants.{WrongForm, NoRoom}
+use Rattle.numbers.specs.declared.Refusal.the-variants.{WrongForm, NoRoom}
 use Rattle.sheet.specs.Lines.{lineAt, noLine, rowLine, rootLine, wrongLine}
 use Rattle.sheet.specs.Reading.{Reading, table, refused, withRow, withRoot, wrongForm, noRoom, readRoots, readRows}
 use Rattle.sheet.specs.Steps.{lineOf, stepOf, either}

@@ -5,9 +5,9 @@ use mathlib.Core.List.{List, [], _∷_, _++_, append-assoc}
 use Prim.Native.Nat.{ℕ, suc, _+_, _≤_, min}
 use native.Mathlib.Omega.{arith}
 use lib.ListN.{length}
-use Rattle.recipe.specs.Ceilings.{rowCeiling, procCeiling, sheetCeiling}
-use Rattle.recipe.specs.declared.Refusal.{Refusal}
-use Rattle.recipe.specs.declared.Refusal.the-variants.{WrongForm, NoRoom}
+use Rattle.numbers.specs.Ceilings.{rowCeiling, procCeiling, sheetCeiling}
+use Rattle.numbers.specs.declared.Refusal.{Refusal}
+use Rattle.numbers.specs.declared.Refusal.the-variants.{WrongForm, NoRoom}
 use Rattle.recipe.specs.declared.Row.{Row}
 use Rattle.sheet.specs.Form.{spelledRow, spelledRoot, spell}
 use Rattle.sheet.specs.Lines.{lineAt, rowLine, rootLine, wrongLine}

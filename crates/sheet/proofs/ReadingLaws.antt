@@ -5,8 +5,8 @@ use mathlib.Core.List.{List, []}
 use Prim.Native.Nat.{ℕ, zero, suc, _+_, _≤_, _<_, min}
 use lib.ListN.{length}
 use borrow.Author.Tests.{le-leb, lt-leb}
-use Rattle.recipe.specs.Ceilings.{rowCeiling, procCeiling, sheetCeiling}
-use Rattle.recipe.specs.declared.Refusal.the-variants.{LongSheet}
+use Rattle.numbers.specs.Ceilings.{rowCeiling, procCeiling, sheetCeiling}
+use Rattle.numbers.specs.declared.Refusal.the-variants.{LongSheet}
 use Rattle.recipe.specs.declared.Row.{Row}
 use Rattle.sheet.specs.Lines.{lineAt, noLine, rowLine, rootLine, wrongLine}
 use Rattle.sheet.specs.Reading.{table, refused, withRow, withRoot, wrongForm, noRoom, readRoots, readRows, readSheet}

@@ -7,8 +7,8 @@ use Prim.Native.Nat.{ℕ, zero, suc, _+_, _≤_, min}
 use native.Mathlib.Decide.{decLe}
 use native.Mathlib.Omega.{arith}
 use lib.ListN.{length}
-use Rattle.recipe.specs.Ceilings.{rowCeiling, procCeiling, sheetCeiling}
-use Rattle.recipe.specs.declared.Refusal.the-variants.{LongSheet}
+use Rattle.numbers.specs.Ceilings.{rowCeiling, procCeiling, sheetCeiling}
+use Rattle.numbers.specs.declared.Refusal.the-variants.{LongSheet}
 use Rattle.recipe.specs.declared.Row.{Row}
 use Rattle.sheet.specs.Form.{spelledRow, spelledRoot, spell, Short, ShortRow, Every, Holdable}
 use Rattle.sheet.specs.Lines.{lineAt}

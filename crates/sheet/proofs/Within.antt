@@ -6,7 +6,7 @@ use Prim.Native.Nat.{ℕ, suc, _≤_, min, zero-le}
 use native.Mathlib.Decide.{decLe}
 use native.Mathlib.Omega.{arith}
 use lib.ListN.{length}
-use Rattle.recipe.specs.Ceilings.{rowCeiling, procCeiling, sheetCeiling}
+use Rattle.numbers.specs.Ceilings.{rowCeiling, procCeiling, sheetCeiling}
 use Rattle.recipe.specs.declared.Row.{Row}
 use Rattle.sheet.specs.Reading.{Reading, table, refused, withRow, withRoot, readRoots, readRows, readSheet, readInto, rowsOf, rootsOf}
 use Rattle.sheet.proofs.EveryReading.{every-roots-reading, every-reading}

@@ -2,7 +2,7 @@
 use mathlib.Core.List.{List, [], _∷_, _++_, flatMap}
 use Prim.Native.Nat.{ℕ, _≤_, min}
 use lib.ListN.{length, getD}
-use Rattle.recipe.specs.Ceilings.{rowCeiling, procCeiling, sheetCeiling}
+use Rattle.numbers.specs.Ceilings.{rowCeiling, procCeiling, sheetCeiling}
 use Rattle.recipe.specs.declared.Row.{Row}
 use Rattle.text.specs.Bytes.{tab, newline}
 use Rattle.text.specs.Numbers.{spelled}

@@ -3,8 +3,8 @@ use mathlib.Core.Path.{_≡_}
 use mathlib.Core.List.{List, [], _++_}
 use Prim.Native.Nat.{ℕ, _+_, _<_}
 use lib.ListN.{length}
-use Rattle.recipe.specs.declared.Refusal.{Refusal}
-use Rattle.recipe.specs.declared.Refusal.the-variants.{WrongForm, NoRoom}
+use Rattle.numbers.specs.declared.Refusal.{Refusal}
+use Rattle.numbers.specs.declared.Refusal.the-variants.{WrongForm, NoRoom}
 use Rattle.recipe.specs.declared.Row.{Row}
 use Rattle.sheet.specs.Form.{spell}
 use Rattle.sheet.specs.Lines.{lineAt, rowLine, rootLine, wrongLine}

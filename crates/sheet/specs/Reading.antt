@@ -4,9 +4,9 @@ use mathlib.Core.List.{List, [], _∷_, _++_}
 use Prim.Native.Nat.{ℕ, zero, suc, _+_, min}
 use lib.Dec.{leb}
 use lib.ListN.{length, drop}
-use Rattle.recipe.specs.Ceilings.{rowCeiling, procCeiling, sheetCeiling}
-use Rattle.recipe.specs.declared.Refusal.{Refusal}
-use Rattle.recipe.specs.declared.Refusal.the-variants.{LongSheet, WrongForm, NoRoom}
+use Rattle.numbers.specs.Ceilings.{rowCeiling, procCeiling, sheetCeiling}
+use Rattle.numbers.specs.declared.Refusal.{Refusal}
+use Rattle.numbers.specs.declared.Refusal.the-variants.{LongSheet, WrongForm, NoRoom}
 use Rattle.recipe.specs.declared.Row.{Row}
 use Rattle.sheet.specs.Lines.{Line, lineAt, noLine, rowLine, rootLine, wrongLine}
 use Rattle.sheet.specs.declared.Read.{Read}

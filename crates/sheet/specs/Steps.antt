@@ -5,7 +5,7 @@ use mathlib.Core.List.{List}
 use Prim.Native.Nat.{ℕ, _+_}
 use lib.Dec.{ltb}
 use lib.ListN.{length, take, drop}
-use Rattle.recipe.specs.declared.Refusal.the-variants.{WrongForm, NoRoom}
+use Rattle.numbers.specs.declared.Refusal.the-variants.{WrongForm, NoRoom}
 use Rattle.sheet.specs.Lines.{Field, holds, broken, Line, noLine, rowLine, rootLine, wrongLine}
 use Rattle.sheet.specs.Reading.{Reading, rowsOf, rootsOf, replyOf}
 use Rattle.sheet.specs.declared.fields.Token.{Token}

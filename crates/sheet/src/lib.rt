@@ -4,7 +4,7 @@ ghost use Prim.Native.Nat.{min};
 ghost use Rattle.recipe.specs.Records.{kindsOf, xsOf, ysOf};
 ghost use Rattle.sheet.specs.Reading.{readInto, rowsOf, rootsOf, replyOf, laid};
 use lines::Room;
-use recipe::Refusal;
+use numbers::Refusal;
 
 mod fields;
 mod lines;

@@ -2,7 +2,7 @@
 ghost use mathlib.Core.Path.{_≡_};
 ghost use Prim.Native.Nat.{_+_, _≤_, min};
 ghost use lib.ListN.{length, drop};
-ghost use Rattle.recipe.specs.Ceilings.{rowCeiling, procCeiling};
+ghost use Rattle.numbers.specs.Ceilings.{rowCeiling, procCeiling};
 ghost use Rattle.sheet.specs.Lines.{rowAt, rootAt, lineAt};
 ghost use Rattle.sheet.specs.Reading.{readSheet};
 ghost use Rattle.sheet.specs.Steps.{lineOf, stepOf, Holding};
@@ -12,12 +12,12 @@ use crate::fields::kind_at;
 use crate::fields::number_at;
 use crate::fields::text_at;
 use crate::least;
-use recipe::LineNumber;
-use recipe::ProcNumber;
-use recipe::Refusal;
+use numbers::LineNumber;
+use numbers::ProcNumber;
+use numbers::Refusal;
+use numbers::RowNumber;
+use numbers::SheetSize;
 use recipe::Row;
-use recipe::RowNumber;
-use recipe::SheetSize;
 
 // A line that was found, with the place after it: a row, a procedure's root, none, or one of wrong form.
 pub enum Entry {

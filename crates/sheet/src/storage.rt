@@ -2,15 +2,15 @@
 ghost use mathlib.Core.Path.{_≡_};
 ghost use Prim.Native.Nat.{_≤_};
 ghost use lib.ListN.{length, take};
-ghost use Rattle.recipe.specs.Ceilings.{rowCeiling, procCeiling};
+ghost use Rattle.numbers.specs.Ceilings.{rowCeiling, procCeiling};
 ghost use Rattle.recipe.specs.Records.{kindsOf, xsOf, ysOf};
 ghost use Rattle.sheet.specs.Reading.{laid};
 ghost use Rattle.sheet.specs.Steps.{rowCount, rootCount};
 use crate::Read;
 use crate::lines::Room;
-use recipe::ProcNumber;
+use numbers::ProcNumber;
+use numbers::RowNumber;
 use recipe::Row;
-use recipe::RowNumber;
 
 // How many rows and roots a reply reports: none where it refuses.
 pub(crate) fn reported(reply: Read) -> Room

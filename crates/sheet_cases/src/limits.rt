@@ -1,7 +1,6 @@
 // Sheets at the ceilings: of bytes, of rows and of procedures.
 ghost use mathlib.Core.Path.{_≡_};
 ghost use lib.ListN.{length};
-use crate::sheets::front;
 use crate::sheets::repeat;
 use crate::sheets::reply;
 use libc::STDOUT_FILENO;
@@ -39,26 +38,22 @@ fn show_large(name: &[u8], sheet: &[u8]) {
     io::write_all(STDOUT_FILENO, b"\n");
 }
 
+// Reads a sheet into these slices and one place for a root, and writes the reply.
+fn show_into(sheet: &[u8], kinds: &mut [u8], xs: &mut [u16], ys: &mut [u16]) {
+    let mut roots = [9u16; 1];
+    reply(sheet::read_sheet(sheet, kinds, xs, ys, &mut roots));
+}
+
 // Reads a sheet of two rows and one of three into these slices, and writes a line for each.
 fn show_uneven(name: &[u8], kinds: &mut [u8], xs: &mut [u16], ys: &mut [u16]) {
-    let mut roots = [9u16; 1];
     io::write_all(STDOUT_FILENO, name);
-    let two = sheet::read_sheet(
-        b"R\tskip\t0\t0\nR\tskip\t0\t0\nP\t0\n",
-        kinds,
-        xs,
-        ys,
-        &mut roots,
-    );
-    reply(two);
-    let three = sheet::read_sheet(
+    show_into(b"R\tskip\t0\t0\nR\tskip\t0\t0\nP\t0\n", kinds, xs, ys);
+    show_into(
         b"R\tskip\t0\t0\nR\tskip\t0\t0\nR\tskip\t0\t0\nP\t0\n",
         kinds,
         xs,
         ys,
-        &mut roots,
     );
-    reply(three);
     io::write_all(STDOUT_FILENO, b"\n");
 }
 
@@ -92,7 +87,7 @@ pub(crate) fn uneven() {
 pub(crate) fn sizes() {
     let mut sheet = long_sheet();
     let n = repeat(&mut sheet, 0, b"P\t0\n", 16384);
-    show_large(b"65536 bytes", front(&sheet, n));
+    show_large(b"65536 bytes", front::bytes(&sheet, n));
     show_large(b"65537 bytes", &sheet);
 }
 
@@ -100,9 +95,9 @@ pub(crate) fn ceilings() {
     let mut sheet = long_sheet();
     let rows = repeat(&mut sheet, 0, b"R\tskip\t0\t0\n", 1024);
     let all = repeat(&mut sheet, rows, b"P\t0\n", 64);
-    show_large(b"1024 rows and 64 procedures", front(&sheet, all));
+    show_large(b"1024 rows and 64 procedures", front::bytes(&sheet, all));
     let over = repeat(&mut sheet, all, b"P\t0\n", 1);
-    show_large(b"65 procedures", front(&sheet, over));
+    show_large(b"65 procedures", front::bytes(&sheet, over));
     let more = repeat(&mut sheet, rows, b"R\tskip\t0\t0\n", 1);
-    show_large(b"1025 rows", front(&sheet, more));
+    show_large(b"1025 rows", front::bytes(&sheet, more));
 }

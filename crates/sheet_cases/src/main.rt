@@ -5,12 +5,22 @@ mod limits;
 mod sheets;
 
 fn main() {
-    cases::good();
+    cases::good_rows();
+    cases::good_tables();
     cases::wrong_marks();
-    cases::wrong_fields();
-    cases::wrong_numbers();
+    cases::stray_bytes();
+    cases::wrong_tabs();
+    cases::wrong_words();
+    cases::lacking_fields();
+    cases::spare_fields();
+    cases::signs_and_zeros();
+    cases::long_numbers();
+    cases::odd_digits();
     cases::wrong_ends();
-    cases::full();
+    cases::open_ends();
+    cases::late_rows();
+    cases::no_room();
+    cases::no_room_and_wrong();
     limits::sizes();
     limits::ceilings();
     limits::uneven();

@@ -1,6 +1,6 @@
 // Sheets put together in a lent slice, and a reply as text.
 use libc::STDOUT_FILENO;
-use recipe::Refusal;
+use numbers::Refusal;
 use sheet::Read;
 
 // Writes a part of a sheet at a place, as far as there is room, and hands back the place after it.
@@ -27,11 +27,6 @@ pub(crate) fn repeat(sheet: &mut [u8], at: usize, part: &[u8], times: usize) -> 
         i += 1;
     }
     next
-}
-
-// The first n bytes, or all where there are fewer.
-pub(crate) fn front(sheet: &[u8], n: usize) -> &[u8] {
-    if sheet.len() < n { sheet } else { &sheet[..n] }
 }
 
 // Writes a tab and a number.
@@ -95,20 +90,21 @@ pub(crate) fn whole(name: &[u8], sheet: &[u8]) {
     show(name, b"all", sheet);
 }
 
+// Puts three lines together and hands back how many bytes they have.
+fn three_lines(sheet: &mut [u8], first: &[u8], middle: &[u8], last: &[u8]) -> usize {
+    let a = append(sheet, 0, first);
+    let b = append(sheet, a, middle);
+    append(sheet, b, last)
+}
+
 // A line that misses the form, as the first, the second and the third of three.
 pub(crate) fn wrong(name: &[u8], line: &[u8]) {
     let row = b"R\tstep\t1\t0\n";
     let mut sheet = [0u8; 128];
-    let a = append(&mut sheet, 0, line);
-    let b = append(&mut sheet, a, row);
-    let first = append(&mut sheet, b, row);
-    show(name, b"first", front(&sheet, first));
-    let c = append(&mut sheet, 0, row);
-    let d = append(&mut sheet, c, line);
-    let middle = append(&mut sheet, d, row);
-    show(name, b"middle", front(&sheet, middle));
-    let e = append(&mut sheet, 0, row);
-    let f = append(&mut sheet, e, row);
-    let last = append(&mut sheet, f, line);
-    show(name, b"last", front(&sheet, last));
+    let first = three_lines(&mut sheet, line, row, row);
+    show(name, b"first", front::bytes(&sheet, first));
+    let middle = three_lines(&mut sheet, row, line, row);
+    show(name, b"middle", front::bytes(&sheet, middle));
+    let last = three_lines(&mut sheet, row, row, line);
+    show(name, b"last", front::bytes(&sheet, last));
 }

@@ -1,10 +1,10 @@
 // The reader of a sheet into lent row records.
 ghost use mathlib.Core.Path.{_≡_};
 ghost use Prim.Native.Nat.{min};
-ghost use Rattle.recipe.specs.Ceilings.{rowCeiling};
+ghost use Rattle.numbers.specs.Ceilings.{rowCeiling};
 ghost use Rattle.sheet_records.specs.Stored.{overlaid};
+use numbers::RowNumber;
 use recipe::Row;
-use recipe::RowNumber;
 
 // The lesser of two counts.
 fn lesser(a: usize, b: usize) -> usize

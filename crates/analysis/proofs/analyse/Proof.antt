@@ -4,7 +4,8 @@ use mathlib.Core.Path.{sym, _∙_}
 use denote.Ref.{now}
 use lib.ListN.{length}
 use Rattle.recipe.specs.Tables.{tableOf}
-use Rattle.analysis.proofs.ReplyLaws.{admitted-with, refused-reply, admitted-reply}
+use Rattle.recipe.proofs.WithMatrix.{admitted-with}
+use Rattle.analysis.proofs.ReplyLaws.{refused-reply, admitted-reply}
 use borrow.Author.Needs.{needs}
 use Rattle.analysis.proofs.analyse.Statement.{statement}
 use Rattle.analysis.proofs.analyse.Tie as tie

@@ -4,7 +4,7 @@ use mathlib.Core.Path.{sym, _∙_}
 use denote.Ref.{now}
 use lib.ListN.{length}
 use Rattle.recipe.specs.Tables.{tableOf}
-use Rattle.analysis.proofs.ReplyLaws.{admitted-with}
+use Rattle.recipe.proofs.WithMatrix.{admitted-with}
 use Rattle.listing.proofs.ReplyLaws.{refused-listing, admitted-listing}
 use borrow.Author.Needs.{needs}
 use Rattle.listing.proofs.list_pairs.Statement.{statement}

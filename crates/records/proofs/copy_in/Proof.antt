@@ -47,7 +47,7 @@ use denote.Triple.Statement.{Contract, Triple}
 use denote.Triple.Table.{entered, cited}
 use denote.Triple.Walked.{says, Stays, stay-none-slice, walkOf, goes-none-slice, Walks, ends-at, walked, walk-meets}
 use denote.Exit.{yes}
-use Rattle.recipe.specs.Ceilings.{rowCeiling}
+use Rattle.numbers.specs.Ceilings.{rowCeiling}
 use Rattle.recipe.specs.declared.Row.{Row}
 use Rattle.recipe.proofs.Row as T
 use Rattle.recipe.proofs.Row.Laws as T′

@@ -46,7 +46,7 @@ use denote.Triple.Statement.{Contract, Triple}
 use denote.Triple.Table.{entered, cited}
 use denote.Triple.Walked.{says, Stays, stay-none, stay-slice, walkOf, goes-none, goes-slice, Walks, ends-at, walked, walk-meets}
 use denote.Exit.{yes}
-use Rattle.recipe.specs.Ceilings.{rowCeiling}
+use Rattle.numbers.specs.Ceilings.{rowCeiling}
 use Rattle.recipe.specs.declared.Row.{Row}
 use Rattle.sheet_records.specs.Stored.{overlaid}
 use Rattle.sheet_records.proofs.Overlaid.{stored, length-stored, stored-overlaid}

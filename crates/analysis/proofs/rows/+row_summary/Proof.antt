@@ -5,7 +5,7 @@ use native.Mathlib.Omega.{arith}
 use Prim.Native.Nat.{ℕ, _<_}
 use borrow.Fn.Kinds.{In}
 use borrow.Fn.PlainCycle.{Measures, is, falls, and}
-use Rattle.analysis.proofs.RowLaws.{first-smaller, second-smaller, loop-smaller, async-smaller, finish-smaller, no-other, call-there, label-fits, xs-there, ys-there}
+use Rattle.recipe.proofs.AloneLaws.{first-smaller, second-smaller, loop-smaller, async-smaller, finish-smaller, no-other, call-there, label-fits, xs-there, ys-there}
 use Rattle.analysis.proofs.RowCases.{ready-child, child-matrix, skip-row, step-row, seq-row, loop-row, async-row, finish-row, call-row}
 use Rattle.analysis.proofs.rows.row_summary.Reads as row-summary
 use Rattle.analysis.proofs.rows.row_summary.Kinds as row-summary-kinds

@@ -5,7 +5,7 @@ use Prim.Native.Nat.{_+_, _-_}
 use native.Mathlib.Omega.{arith}
 use denote.Ref.{now}
 use borrow.Author.Needs.{needs}
-use Rattle.recipe.specs.declared.Refusal.the-variants.{LongSheet}
+use Rattle.numbers.specs.declared.Refusal.the-variants.{LongSheet}
 use Rattle.sheet.specs.declared.lines.Step.{Step}
 use Rattle.sheet.specs.declared.lines.Step.the-variants.{KeepRow, KeepRoot}
 use Rattle.sheet.specs.Reading.{readSheet, readRows}

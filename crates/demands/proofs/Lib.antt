@@ -1,0 +1,4 @@
+pub mod LeastSolution
+pub mod Demands
+pub mod Reported
+pub mod StarredRecipes

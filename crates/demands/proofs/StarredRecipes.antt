@@ -1,0 +1,16 @@
+-- The starred recipes come out as document 01 says, computed by the definitions.
+-- Assumes nothing.
+use mathlib.Core.Path.{_≡_, refl}
+use mathlib.Core.Bool.{true}
+use Rattle.labels.specs.Words.{bit, changed, alike}
+use Rattle.labels.specs.Sets.{member, single, joined}
+use Rattle.labels.specs.Matrix.{crossed}
+use Rattle.recipe.specs.Rules.{lowest}
+use Rattle.analysis.specs.Rounds.{after, every}
+use Rattle.word.specs.Reached.{calling, reached, someReaches}
+use Rattle.analysis.specs.Replies.{rounds}
+use Rattle.demands.specs.Starred.{matrixOf, saysTrue, allTrue, starred}
+
+pub starred-recipes : allTrue starred ≡ true
+unfolding bit changed alike member single joined crossed lowest after every calling reached someReaches rounds matrixOf saysTrue allTrue
+starred-recipes = refl

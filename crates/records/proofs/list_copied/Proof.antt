@@ -1,0 +1,72 @@
+-- `list_copied` meets its contract: too many rows are refused for their sizes, and of any others the first n entries of the columns are their fields.
+-- Assumes nothing.
+use mathlib.Core.Path.{_≡_, ap, _∙_}
+use native.Mathlib.Omega.{arith}
+use lib.ListN.{length}
+use denote.Ref.{now}
+use Rattle.recipe.specs.Tables.{Table}
+use Rattle.listing.specs.Replies.{listed, matrixListed, bytesListed}
+use Rattle.records.proofs.CopiedTable.{first-are, first-n}
+use Rattle.records.proofs.TooMany.{too-many-listed}
+use borrow.Author.Needs.{needs}
+use Rattle.records.proofs.list_copied.Statement.{statement}
+use Rattle.records.proofs.list_copied.Tie as tie
+
+returns : tie.Need-returns
+returns c =
+    let a = c .before .before .before .before .args in
+    λ rows e copies. too-many-listed rows (now (a .roots)) (now (a .matrix)) (omega arith) (now (a .bytes))
+
+array-share-prefix-kinds : tie.Need-array-share-prefix-kinds
+array-share-prefix-kinds c = let e : length (c .before .before .before .before .before .before .before .args .all .kinds) ≡ 1024 = search needs in omega arith
+
+slice-aggregate-list-pairs : tie.Need-slice-aggregate-list-pairs
+slice-aggregate-list-pairs c = first-n _ _ (search needs) (omega arith)
+
+array-share-prefix-xs : tie.Need-array-share-prefix-xs
+array-share-prefix-xs c = let e : length (c .before .before .before .before .before .before .before .before .args .all .xs) ≡ 1024 = search needs in omega arith
+
+slice-aggregate-list-pairs-2 : tie.Need-slice-aggregate-list-pairs-2
+slice-aggregate-list-pairs-2 c = first-n _ _ (search needs) (omega arith)
+
+array-share-prefix-ys : tie.Need-array-share-prefix-ys
+array-share-prefix-ys c = let e : length (c .before .before .before .before .before .before .before .before .before .args .all .ys) ≡ 1024 = search needs in omega arith
+
+slice-aggregate-list-pairs-3 : tie.Need-slice-aggregate-list-pairs-3
+slice-aggregate-list-pairs-3 c = first-n _ _ (search needs) (omega arith)
+
+list-pairs-requires : tie.Need-list-pairs-requires
+list-pairs-requires c κs = search needs
+
+same-length : tie.Need-same-length
+same-length c = search needs
+
+same-length-2 : tie.Need-same-length-2
+same-length-2 c = search needs
+
+returns-2 : tie.Need-returns-2
+returns-2 c =
+    let a = c .before .before .before .before .before .before .before .before .before .before .before .before .before .before .before .before .before .args in
+    let given = c .before .before .before .before .list-pairs .ensures in
+    λ rows e copies.
+    let same = first-are (a .n) (a .all) rows (now (a .roots)) (omega arith) e copies in (
+      given .0 ∙ ap (λ (t : Table). listed t (length (now (a .matrix))) (length (now (a .bytes)))) same,
+      given .1 .0 ∙ ap (λ (t : Table). matrixListed t (now (a .matrix)) (length (now (a .bytes)))) same,
+      given .1 .1 ∙ ap (λ (t : Table). bytesListed t (length (now (a .matrix))) (now (a .bytes))) same,
+    )
+
+pub list-copied-spec : {M : Type 1} → statement M
+list-copied-spec =
+    tie.close
+    (tie.spec
+    returns
+    array-share-prefix-kinds
+    slice-aggregate-list-pairs
+    array-share-prefix-xs
+    slice-aggregate-list-pairs-2
+    array-share-prefix-ys
+    slice-aggregate-list-pairs-3
+    list-pairs-requires
+    same-length
+    same-length-2
+    returns-2)

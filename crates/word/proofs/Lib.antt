@@ -1,0 +1,4 @@
+pub mod ReachedLaws
+pub mod WordLaws
+pub mod ReplyLaws
+pub mod Unique

@@ -1,0 +1,48 @@
+-- `word` meets its contract: a refusal is handed on, and an admitted table's word is whether a procedure reaches itself.
+-- Assumes nothing.
+use mathlib.Core.Path.{refl, sym, _∙_}
+use denote.Ref.{now}
+use Rattle.recipe.specs.Tables.{tableOf}
+use Rattle.word.proofs.ReplyLaws.{refused-word, admitted-word}
+use borrow.Author.Needs.{needs}
+use Rattle.word.proofs.word.Statement.{statement}
+use Rattle.word.proofs.word.Tie as tie
+
+judge-requires : tie.Need-judge-requires
+judge-requires c κs = search needs
+
+enum-known-r : tie.Need-enum-known-r
+enum-known-r c = search needs
+
+enum-told : tie.Need-enum-told
+enum-told c = search needs
+
+reaches-itself-requires : tie.Need-reaches-itself-requires
+reaches-itself-requires c κs = sym (c .before .before .judge .ensures) ∙ c .enum-told .given .1
+
+returns : tie.Need-returns
+returns c =
+    let a = c .before .before .before .before .before .before .before .before .args in
+    refused-word (tableOf (now (a .kinds)) (now (a .xs)) (now (a .ys)) (now (a .roots))) (sym (c .before .before .before .judge .ensures) ∙ c .before .r .given .1)
+
+returns-2 : tie.Need-returns-2
+returns-2 c =
+    let a = c .before .before .before .before .before .before .before .before .before .args in
+    admitted-word (tableOf (now (a .kinds)) (now (a .xs)) (now (a .ys)) (now (a .roots))) (sym (c .before .before .before .before .judge .ensures) ∙ c .before .before .enum-told .given .1) (sym (c .if1 .taken) ∙ c .before .reaches-itself .ensures) refl
+
+returns-3 : tie.Need-returns-3
+returns-3 c =
+    let a = c .before .before .before .before .before .before .before .before .before .args in
+    admitted-word (tableOf (now (a .kinds)) (now (a .xs)) (now (a .ys)) (now (a .roots))) (sym (c .before .before .before .before .judge .ensures) ∙ c .before .before .enum-told .given .1) (sym (c .if1 .left) ∙ c .before .reaches-itself .ensures) refl
+
+pub word-spec : {M : Type 1} → statement M
+word-spec =
+    tie.close
+    (tie.spec
+    judge-requires
+    enum-known-r
+    enum-told
+    reaches-itself-requires
+    returns
+    returns-2
+    returns-3)
