@@ -14,7 +14,8 @@ use Rattle.recipe.specs.Statements.{Child}
 use Rattle.recipe.specs.declared.Judged.the-variants.{Admitted}
 use Rattle.recipe.proofs.Lowest.{none-at-all, lowest-none}
 use Rattle.recipe.proofs.Operands.{and-first, and-second, child-before}
-use Rattle.recipe.proofs.Judging.{Sized, sized, sizes-test, passed-if-admitted, passed-on, fromOperands, fromRoots, fromUsedAgain, fromUnused, sizes-passed, sizes-refused}
+use Rattle.recipe.specs.Offences.{Sized, Kept}
+use Rattle.recipe.proofs.Judging.{sized, sizes-test, passed-if-admitted, passed-on, fromOperands, fromRoots, fromUsedAgain, fromUnused, sizes-passed, sizes-refused}
 
 module _ (t : Table) (ok : admitted t) where
   right-sizes : sizesRight (rows t) (length (t .xs)) (length (t .ys)) (procs t) ≡ true
@@ -113,14 +114,6 @@ module _ (t : Table) (ok : admitted t) where
         let most : uses t i ≤ 1 = ltb-false 1 (uses t i) (none-at-all (rows t) (usedAgain t) (past-used-again .0) i l) in
         let some : uses t i ≡ 0 → ⊥ = eqb-false (uses t i) 0 (none-at-all (rows t) (unused t) (past-unused .0) i l) in
         omega arith
-
--- The rules, one by one.
-pub record Kept (t : Table) : Type 0 where
-  pub sizes : Sized (rows t) (length (t .xs)) (length (t .ys)) (procs t)
-  pub kinds : (i : ℕ) → i < rows t → kindAt t i ≤ 6
-  pub operands : (i : ℕ) → i < rows t → operandsRight (kindOf (kindAt t i)) (xAt t i) (yAt t i) i (procs t) ≡ true
-  pub roots : (f : ℕ) → f < procs t → rootAt t f < rows t
-  pub once : (i : ℕ) → i < rows t → uses t i ≡ 1
 
 -- An admitted table keeps every rule.
 pub admitted-kept : (t : Table) → admitted t → Kept t

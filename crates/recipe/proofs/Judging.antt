@@ -9,21 +9,13 @@ use lib.Dec.{ltb, leb, eqb}
 use lib.ListN.{length}
 use Rattle.numbers.specs.Ceilings.{rowCeiling, procCeiling}
 use Rattle.recipe.specs.Tables.{Table, rows, procs, kindAt, rootAt}
+use Rattle.recipe.specs.Offences.{Sized}
 use Rattle.recipe.specs.Rules.{lowest, fromOneTo, sizesRight, kindUnknown, operandWrong, rootMissing, usedAgain, unused, refusedAt, judged}
 use Rattle.numbers.specs.declared.Refusal.{Refusal}
 use Rattle.numbers.specs.declared.Refusal.the-variants.{UnknownKind, WrongOperand, NoSuchRow, UsedAgain, Unused, Sizes}
 use Rattle.recipe.specs.declared.Judged.{Judged}
 use Rattle.recipe.specs.declared.Judged.the-variants.{Admitted, Refused}
 use Rattle.recipe.proofs.Operands.{and-first, and-second}
-
--- What right sizes are.
-pub record Sized (rows xs ys procs : ℕ) : Type 0 where
-  pub some-rows : 1 ≤ rows
-  pub few-rows : rows ≤ rowCeiling
-  pub some-procs : 1 ≤ procs
-  pub few-procs : procs ≤ procCeiling
-  pub xs-match : xs ≡ rows
-  pub ys-match : ys ≡ rows
 
 pub sized : (rows xs ys procs : ℕ) → sizesRight rows xs ys procs ≡ true → Sized rows xs ys procs
 unfolding sizesRight

@@ -10,3 +10,4 @@ pub mod Bodies
 pub mod Unique
 pub mod AloneLaws
 pub mod WithMatrix
+pub mod Offences

@@ -3,6 +3,7 @@
 use mathlib.Core.Path.{_≡_, refl}
 use mathlib.Core.List.{[], _∷_}
 use Rattle.recipe.specs.declared.Row.{Row}
+use Rattle.sheet_records.specs.Records.{rowsAt}
 use Rattle.sheet_records.specs.Stored.{overlaid}
 
 abbrev step : Row
@@ -28,3 +29,8 @@ cut-short = refl
 no-more : overlaid 5 (step ∷ []) (other ∷ other ∷ []) ≡ step ∷ other ∷ []
 unfolding overlaid
 no-more = refl
+
+-- Rows are put together from the fields at their places.
+two-rows : rowsAt 2 (1 ∷ 2 ∷ 9 ∷ []) (7 ∷ 0 ∷ []) (0 ∷ 1 ∷ []) ≡ step ∷ seq ∷ []
+unfolding rowsAt
+two-rows = refl

@@ -45,11 +45,3 @@ stored-overlaid n m new old e =
 pub overlaid-fits : (n : ℕ) (new old : List Row) → n ≤ length new → n ≤ length old → overlaid n new old ≡ take n new ++ drop n old
 overlaid-fits n new old p q =
     let e : min (min n (length new)) (length old) ≡ n = omega arith in overlaid-is n new old ∙ ap (λ (k : ℕ). take k new ++ drop k old) e
-
--- The lent rows stay as many as they were.
-pub length-overlaid : (n : ℕ) (new old : List Row) → length (overlaid n new old) ≡ length old
-unfolding overlaid
-length-overlaid zero new old = refl
-length-overlaid (suc n) [] old = refl
-length-overlaid (suc n) (x ∷ new) [] = refl
-length-overlaid (suc n) (x ∷ new) (y ∷ old) = ap suc (length-overlaid n new old)

@@ -14,7 +14,8 @@ use Rattle.recipe.specs.Counting.{Counts}
 use Rattle.recipe.proofs.Lowest.{none-at-all}
 use Rattle.recipe.proofs.Operands.{child-before}
 use Rattle.recipe.proofs.Counters.{counts-none, lowest-at-two, lowest-at-zero}
-use Rattle.recipe.proofs.Judging.{Sized, sized, refused-at, passed-on, fromKinds, fromOperands, fromRoots, fromUsedAgain, fromUnused, sizes-refused, sizes-passed}
+use Rattle.recipe.specs.Offences.{Sized}
+use Rattle.recipe.proofs.Judging.{sized, refused-at, passed-on, fromKinds, fromOperands, fromRoots, fromUsedAgain, fromUnused, sizes-refused, sizes-passed}
 use Rattle.recipe.proofs.judge.Statement.{statement}
 use Rattle.recipe.proofs.judge.Tie as tie
 
