@@ -1,8 +1,11 @@
 /*
  * Times of the library's three entries beside those of straight.c, a
- * straightforward C version of the same work, in one process on the same
- * sheets. Where the library only runs in the emulator both do, so that only
- * the ratios say something there.
+ * straightforward C version of the same work, and of the library's entries on
+ * records beside those on slices, in one process on the same sheets. Where the
+ * library only runs in the emulator all do, so that only the ratios say
+ * something there: the first is the library's time over the C version's, the
+ * second the time on records over that on slices, which is what the copy
+ * costs.
  *
  *   tools/x86 cc LIBDIR HEADERDIR bench/emulated.c OUT
  *   tools/x86 run OUT SHEET...
@@ -10,7 +13,7 @@
  * LIBDIR is the folder of libpanel.a, HEADERDIR that of panel.h; the sheets
  * are those that the bench program writes with --sheets. Each time is the best
  * of several batches, in nanoseconds of the process's processor time a call;
- * no buffer is cleared between the calls. Both versions must give the same
+ * no buffer is cleared between the calls. All versions must give the same
  * replies and store the same; status 1 if they do not, 2 if a sheet cannot be
  * read.
  */
@@ -32,12 +35,15 @@ struct store {
     uint8_t kinds[BUSHKALOTE_ROWS];
     uint16_t xs[BUSHKALOTE_ROWS];
     uint16_t ys[BUSHKALOTE_ROWS];
+    bushkalote_row records[BUSHKALOTE_ROWS];
     uint16_t roots[BUSHKALOTE_PROCEDURES];
     uint64_t matrix[BUSHKALOTE_LABELS];
     uint8_t listing[BUSHKALOTE_LISTING_BYTES];
 };
 
-enum { LIBRARY, STRAIGHT, VERSIONS };
+enum { LIBRARY, STRAIGHT, RECORDS, VERSIONS };
+
+static const char *const version_names[VERSIONS] = {"the library", "the C version", "the library on records"};
 
 enum { ANALYSE, READ_SHEET, LIST_PAIRS, ENTRIES };
 
@@ -53,9 +59,9 @@ typedef uint64_t list_entry(
     const uint8_t *, size_t, const uint16_t *, size_t, const uint16_t *, size_t, const uint16_t *, size_t,
     uint64_t *, size_t, uint8_t *, size_t);
 
-static analyse_entry *volatile analyse[VERSIONS] = {bushkalote_analyse, straight_analyse};
-static read_entry *volatile read_sheet[VERSIONS] = {bushkalote_read_sheet, straight_read_sheet};
-static list_entry *volatile list_pairs[VERSIONS] = {bushkalote_list_pairs, straight_list_pairs};
+static analyse_entry *volatile analyse[] = {bushkalote_analyse, straight_analyse};
+static read_entry *volatile read_sheet[] = {bushkalote_read_sheet, straight_read_sheet};
+static list_entry *volatile list_pairs[] = {bushkalote_list_pairs, straight_list_pairs};
 
 /* The sheet, its recipe as the library reads it, and the store of each version. */
 static uint8_t sheet[BUSHKALOTE_SHEET_BYTES + 1];
@@ -65,10 +71,29 @@ static size_t rows;
 static size_t procedures;
 static struct store stores[VERSIONS];
 
+static uint64_t call_on_records(int entry)
+{
+    struct store *s = &stores[RECORDS];
+
+    switch (entry) {
+    case ANALYSE:
+        return bushkalote_analyse_rows(recipe.records, rows, recipe.roots, procedures, s->matrix,
+                                       BUSHKALOTE_LABELS);
+    case READ_SHEET:
+        return bushkalote_read_rows(sheet, sheet_len, s->records, BUSHKALOTE_ROWS, s->roots,
+                                    BUSHKALOTE_PROCEDURES);
+    default:
+        return bushkalote_list_rows(recipe.records, rows, recipe.roots, procedures, s->matrix, BUSHKALOTE_LABELS,
+                                    s->listing, BUSHKALOTE_LISTING_BYTES);
+    }
+}
+
 static uint64_t call(int version, int entry)
 {
     struct store *s = &stores[version];
 
+    if (version == RECORDS)
+        return call_on_records(entry);
     switch (entry) {
     case ANALYSE:
         return analyse[version](recipe.kinds, rows, recipe.xs, rows, recipe.ys, rows, recipe.roots, procedures,
@@ -95,18 +120,41 @@ static int load(const char *path)
     return whole;
 }
 
-/* True if an entry is not refused, and both versions reply and store the same. */
+/* The records of a recipe, from its slices. */
+static void pack(struct store *s)
+{
+    for (size_t r = 0; r < BUSHKALOTE_ROWS; r++)
+        s->records[r] = (bushkalote_row){s->kinds[r], s->xs[r], s->ys[r]};
+}
+
+/* The slices of what was stored as records; the records are as before then. */
+static void unpack(struct store *s)
+{
+    for (size_t r = 0; r < BUSHKALOTE_ROWS; r++) {
+        s->kinds[r] = s->records[r].kind;
+        s->xs[r] = s->records[r].x;
+        s->ys[r] = s->records[r].y;
+    }
+    memset(s->records, 0x55, sizeof s->records);
+}
+
+/* True if an entry is not refused, and all versions reply and store the same. */
 static int agree(const char *path, int entry)
 {
     memset(stores, 0x55, sizeof stores);
     const uint64_t theirs = call(LIBRARY, entry);
-    const uint64_t ours = call(STRAIGHT, entry);
-    if (BUSHKALOTE_NUMBER(theirs) == 0 && theirs == ours &&
-        memcmp(&stores[LIBRARY], &stores[STRAIGHT], sizeof stores[LIBRARY]) == 0)
-        return 1;
-    fprintf(stderr, "%s: %s: the library replies %" PRIx64 ", the C version %" PRIx64 "%s\n", path,
-            entry_names[entry], theirs, ours, theirs == ours ? ", and they store different things" : "");
-    return 0;
+    for (int v = STRAIGHT; v < VERSIONS; v++) {
+        const uint64_t ours = call(v, entry);
+        if (v == RECORDS)
+            unpack(&stores[v]);
+        if (BUSHKALOTE_NUMBER(theirs) == 0 && theirs == ours &&
+            memcmp(&stores[LIBRARY], &stores[v], sizeof stores[v]) == 0)
+            continue;
+        fprintf(stderr, "%s: %s: the library replies %" PRIx64 ", %s %" PRIx64 "%s\n", path, entry_names[entry],
+                theirs, version_names[v], ours, theirs == ours ? ", and they store different things" : "");
+        return 0;
+    }
+    return 1;
 }
 
 /* The process's processor time; that of other programs does not count. */
@@ -129,7 +177,7 @@ static double batch(int version, int entry, long calls)
 
 /*
  * The best time of a call of each version. Batches of the versions take turns,
- * so that a disturbance of the machine meets both.
+ * so that a disturbance of the machine meets all.
  */
 static void best(int entry, double least_ns[VERSIONS])
 {
@@ -163,7 +211,8 @@ int main(int argc, char **argv)
         fprintf(stderr, "usage: emulated SHEET...\n");
         return 2;
     }
-    printf("%-24s %-11s %12s %12s %8s\n", "sheet", "entry", "library ns", "C ns", "ratio");
+    printf("%-24s %-11s %12s %12s %8s %12s %8s\n", "sheet", "entry", "library ns", "C ns", "ratio", "records ns",
+           "ratio");
     for (int a = 1; a < argc; a++) {
         if (!load(argv[a])) {
             fprintf(stderr, "%s: cannot be read as a sheet\n", argv[a]);
@@ -172,6 +221,7 @@ int main(int argc, char **argv)
         if (!agree(argv[a], READ_SHEET))
             return 1;
         recipe = stores[LIBRARY];
+        pack(&recipe);
         const uint64_t reply = call(LIBRARY, READ_SHEET);
         rows = BUSHKALOTE_ROWS_READ(reply);
         procedures = BUSHKALOTE_PROCEDURES_READ(reply);
@@ -180,8 +230,8 @@ int main(int argc, char **argv)
         for (int e = 0; e < ENTRIES; e++) {
             double ns[VERSIONS];
             best(e, ns);
-            printf("%-24s %-11s %12.0f %12.0f %8.2f\n", file_name(argv[a]), entry_names[e], ns[LIBRARY],
-                   ns[STRAIGHT], ns[LIBRARY] / ns[STRAIGHT]);
+            printf("%-24s %-11s %12.0f %12.0f %8.2f %12.0f %8.3f\n", file_name(argv[a]), entry_names[e],
+                   ns[LIBRARY], ns[STRAIGHT], ns[LIBRARY] / ns[STRAIGHT], ns[RECORDS], ns[RECORDS] / ns[LIBRARY]);
             fflush(stdout);
         }
     }

@@ -1,5 +1,8 @@
 //! Times of the library's three entries beside those of a straightforward
-//! optimised Rust version of the same work, on the same inputs.
+//! optimised Rust version of the same work, and of the library's entries on
+//! records beside those on slices, on the same inputs. The first ratio is the
+//! library's time over the Rust version's, the second the time on records over
+//! that on slices, which is what the copy costs.
 //!
 //!   cargo run --release --bin bench        (in tests/second)
 //!   cargo run --release --bin bench -- --sheets DIR
@@ -17,6 +20,7 @@ mod straight;
 use second::compare;
 use second::dice::Dice;
 use second::panel::Panel;
+use second::table::Row;
 use second::{gen, samples, sheet, Table, LABELS, LISTING_BYTES, PROCEDURES, ROWS};
 use std::hint::black_box;
 use std::path::Path;
@@ -35,24 +39,40 @@ fn library() -> Option<Box<dyn Panel>> {
     None
 }
 
+/// A version by its entries on slices, or by those on records.
+enum Version<'a> {
+    Slices(&'a dyn Panel),
+    Records(&'a dyn Panel),
+}
+
 /// What a version is called with, and where it writes.
 struct Bench<'a> {
     table: &'a Table,
+    records: &'a [Row],
     sheet: &'a [u8],
     matrix: Vec<u64>,
     listed: Vec<u8>,
     kinds: Vec<u8>,
     xs: Vec<u16>,
     ys: Vec<u16>,
+    rows: Vec<Row>,
     roots: Vec<u16>,
 }
 
 const ENTRIES: [&str; 3] = ["analyse", "read_sheet", "list_pairs"];
 
 impl Bench<'_> {
-    fn call(&mut self, panel: &dyn Panel, entry: &str) {
+    fn call(&mut self, version: &Version, entry: &str) {
+        let reply = match version {
+            Version::Slices(panel) => self.call_on_slices(*panel, entry),
+            Version::Records(panel) => self.call_on_records(*panel, entry),
+        };
+        assert_eq!(black_box(reply) >> 32, 0, "{entry} refused");
+    }
+
+    fn call_on_slices(&mut self, panel: &dyn Panel, entry: &str) -> u64 {
         let t = black_box(self.table);
-        let reply = match entry {
+        match entry {
             "analyse" => panel.analyse(&t.kinds, &t.xs, &t.ys, &t.roots, &mut self.matrix),
             "read_sheet" => panel.read_sheet(
                 black_box(self.sheet),
@@ -69,27 +89,36 @@ impl Bench<'_> {
                 &mut self.matrix,
                 &mut self.listed,
             ),
-        };
-        assert_eq!(black_box(reply) >> 32, 0, "{entry} refused");
+        }
+    }
+
+    fn call_on_records(&mut self, panel: &dyn Panel, entry: &str) -> u64 {
+        let rows = black_box(self.records);
+        let roots = &self.table.roots;
+        match entry {
+            "analyse" => panel.analyse_rows(rows, roots, &mut self.matrix),
+            "read_sheet" => panel.read_rows(black_box(self.sheet), &mut self.rows, &mut self.roots),
+            _ => panel.list_rows(rows, roots, &mut self.matrix, &mut self.listed),
+        }
     }
 
     /// The best time of a call of each version, in nanoseconds. Batches of the
     /// versions take turns, so that a disturbance of the machine meets all.
-    fn best(&mut self, versions: &[&dyn Panel], entry: &str) -> Vec<f64> {
+    fn best(&mut self, versions: &[Version], entry: &str) -> Vec<f64> {
         let mut calls = Vec::new();
-        for panel in versions {
-            self.call(*panel, entry);
+        for version in versions {
+            self.call(version, entry);
             let start = Instant::now();
-            self.call(*panel, entry);
+            self.call(version, entry);
             let once = start.elapsed().as_nanos().max(1);
             calls.push((6_000_000 / once).clamp(1, 20_000) as u32);
         }
         let mut least = vec![f64::MAX; versions.len()];
         for _ in 0..20 {
-            for (v, panel) in versions.iter().enumerate() {
+            for (v, version) in versions.iter().enumerate() {
                 let start = Instant::now();
                 for _ in 0..calls[v] {
-                    self.call(*panel, entry);
+                    self.call(version, entry);
                 }
                 least[v] = least[v].min(start.elapsed().as_nanos() as f64 / f64::from(calls[v]));
             }
@@ -177,38 +206,53 @@ fn time() -> ExitCode {
         println!("library not run: BUSHKALOTE_PANEL (the folder of libpanel.a) was not set at build time");
     }
     println!(
-        "{:<40} {:<11} {:>12} {:>12} {:>8}",
-        "input", "entry", "library ns", "Rust ns", "ratio"
+        "{:<40} {:<11} {:>12} {:>12} {:>8} {:>12} {:>8}",
+        "input", "entry", "library ns", "Rust ns", "ratio", "records ns", "ratio"
     );
     for Input { name, table, .. } in &inputs() {
         let bytes = sheet::spell(table);
-        let mut versions: Vec<&dyn Panel> = vec![&Straight];
-        versions.extend(library.as_deref());
-        for (panel, version) in versions.iter().zip(["the Rust version", "the library"]) {
-            if let Err(what) = checked(version, *panel, table, &bytes) {
+        let mut versions = vec![Version::Slices(&Straight)];
+        if let Some(library) = library.as_deref() {
+            versions.extend([Version::Slices(library), Version::Records(library)]);
+        }
+        for (version, which) in versions.iter().zip(["the Rust version", "the library"]) {
+            let (Version::Slices(panel) | Version::Records(panel)) = version;
+            if let Err(what) = checked(which, *panel, table, &bytes) {
                 eprintln!("bench: {name}: {what}");
                 return ExitCode::from(1);
             }
         }
         let mut bench = Bench {
             table,
+            records: &table.records().expect("an even table"),
             sheet: &bytes,
             matrix: vec![0; LABELS],
             listed: vec![0; LISTING_BYTES],
             kinds: vec![0; ROWS],
             xs: vec![0; ROWS],
             ys: vec![0; ROWS],
+            rows: vec![
+                Row {
+                    kind: 0,
+                    x: 0,
+                    y: 0
+                };
+                ROWS
+            ],
             roots: vec![0; PROCEDURES],
         };
         for entry in ENTRIES {
-            let least = bench.best(&versions, entry);
-            let rust = least[0];
-            match least.get(1) {
-                Some(theirs) => println!(
-                    "{name:<40} {entry:<11} {theirs:>12.0} {rust:>12.0} {:>8.2}",
-                    theirs / rust
+            match bench.best(&versions, entry)[..] {
+                [rust, slices, records] => println!(
+                    "{name:<40} {entry:<11} {slices:>12.0} {rust:>12.0} {:>8.2} {records:>12.0} {:>8.3}",
+                    slices / rust,
+                    records / slices
                 ),
-                None => println!("{name:<40} {entry:<11} {:>12} {rust:>12.0} {:>8}", "-", "-"),
+                [rust, ..] => println!(
+                    "{name:<40} {entry:<11} {:>12} {rust:>12.0} {:>8} {:>12} {:>8}",
+                    "-", "-", "-", "-"
+                ),
+                [] => unreachable!("the Rust version is always timed"),
             }
         }
     }

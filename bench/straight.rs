@@ -6,6 +6,7 @@
 //! version to compare.
 
 use second::panel::Panel;
+use second::table::Row;
 
 const ROWS: usize = 1024;
 const PROCEDURES: usize = 64;
@@ -299,6 +300,21 @@ fn parsed_kind(bytes: &[u8], at: &mut usize) -> Option<u8> {
     None
 }
 
+/// Records as three slices.
+struct Columns {
+    kinds: Vec<u8>,
+    xs: Vec<u16>,
+    ys: Vec<u16>,
+}
+
+fn columns(rows: &[Row]) -> Columns {
+    Columns {
+        kinds: rows.iter().map(|row| row.kind).collect(),
+        xs: rows.iter().map(|row| row.x).collect(),
+        ys: rows.iter().map(|row| row.y).collect(),
+    }
+}
+
 impl Panel for Straight {
     fn analyse(
         &self,
@@ -424,5 +440,32 @@ impl Panel for Straight {
         debug_assert_eq!(out.at, length);
         matrix[..LABELS].copy_from_slice(&m);
         length as u64
+    }
+
+    fn analyse_rows(&self, rows: &[Row], roots: &[u16], matrix: &mut [u64]) -> u64 {
+        let Columns { kinds, xs, ys } = columns(rows);
+        self.analyse(&kinds, &xs, &ys, roots, matrix)
+    }
+
+    fn read_rows(&self, bytes: &[u8], rows: &mut [Row], roots: &mut [u16]) -> u64 {
+        let Columns {
+            mut kinds,
+            mut xs,
+            mut ys,
+        } = columns(rows);
+        let reply = self.read_sheet(bytes, &mut kinds, &mut xs, &mut ys, roots);
+        for (i, row) in rows.iter_mut().enumerate() {
+            *row = Row {
+                kind: kinds[i],
+                x: xs[i],
+                y: ys[i],
+            };
+        }
+        reply
+    }
+
+    fn list_rows(&self, rows: &[Row], roots: &[u16], matrix: &mut [u64], bytes: &mut [u8]) -> u64 {
+        let Columns { kinds, xs, ys } = columns(rows);
+        self.list_pairs(&kinds, &xs, &ys, roots, matrix, bytes)
     }
 }

@@ -1,13 +1,18 @@
 /*
- * The recipe tool for a panel's firmware: the three entries of libpanel.a.
+ * The recipe tool for a panel's firmware: the six entries of libpanel.a.
  *
  * A slice is handed over as a pointer and a length, the length in elements,
  * not in bytes. A pointer is never null, also where the length is 0, and is
  * aligned for its element. What is written must not overlap any other slice.
  * Nothing is kept after the call. The analysis recurses as deep as the recipe
- * is nested, up to 1,024 rows, and needs stack for it.
+ * is nested, up to 1,024 rows, and needs stack for it; an entry on records
+ * copies them there.
  *
- * A recipe is three slices of equal length, one element a row, and the roots:
+ * A recipe is its rows and its roots. The rows are handed over in one of two
+ * ways, with an entry for each: as three slices of equal length, kinds, xs and
+ * ys, one element a row, or as one slice of records, bushkalote_row. Both give
+ * the same replies and write the same. A record's kind, x and y are those of
+ * its row; the byte between kind and x has no meaning.
  *
  *   kind  word    x                  y
  *   0     skip    0                  0
@@ -60,6 +65,13 @@ extern "C" {
 #define BUSHKALOTE_SHEET_BYTES 65536
 #define BUSHKALOTE_LISTING_BYTES 11858
 
+/* A row as a record. */
+typedef struct bushkalote_row {
+    uint8_t kind;
+    uint16_t x;
+    uint16_t y;
+} bushkalote_row;
+
 /* The two halves of a reply. */
 #define BUSHKALOTE_NUMBER(reply) ((uint32_t)((uint64_t)(reply) >> 32))
 #define BUSHKALOTE_VALUE(reply) ((uint32_t)((uint64_t)(reply) & 0xffffffffu))
@@ -106,6 +118,26 @@ uint64_t bushkalote_list_pairs(
     const uint8_t *kinds, size_t kinds_len,
     const uint16_t *xs, size_t xs_len,
     const uint16_t *ys, size_t ys_len,
+    const uint16_t *roots, size_t roots_len,
+    uint64_t *matrix, size_t matrix_len,
+    uint8_t *bytes, size_t bytes_len);
+
+/*
+ * The same three on records: there are no lengths that can differ, and the
+ * room for rows is the number of records.
+ */
+uint64_t bushkalote_analyse_rows(
+    const bushkalote_row *rows, size_t rows_len,
+    const uint16_t *roots, size_t roots_len,
+    uint64_t *matrix, size_t matrix_len);
+
+uint64_t bushkalote_read_rows(
+    const uint8_t *bytes, size_t bytes_len,
+    bushkalote_row *rows, size_t rows_len,
+    uint16_t *roots, size_t roots_len);
+
+uint64_t bushkalote_list_rows(
+    const bushkalote_row *rows, size_t rows_len,
     const uint16_t *roots, size_t roots_len,
     uint64_t *matrix, size_t matrix_len,
     uint8_t *bytes, size_t bytes_len);

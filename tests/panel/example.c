@@ -1,8 +1,8 @@
 /*
- * The panel's entries from C: reads the whole case from a sheet, works it out,
- * prints its listing, and meets the refusals. Ends with status 0 if every
- * reply and all lent storage are as they should be. Built and run by
- * tests/panel/run.
+ * The panel's six entries from C: reads the whole case from a sheet, works it
+ * out, prints its listing, and meets the refusals, on slices and on records.
+ * Ends with status 0 if every reply and all lent storage are as they should
+ * be. Built and run by tests/panel/run.
  */
 #include <stdio.h>
 #include <string.h>
@@ -32,6 +32,7 @@ static const char whole_listing[] =
 static uint8_t kinds[BUSHKALOTE_ROWS];
 static uint16_t xs[BUSHKALOTE_ROWS];
 static uint16_t ys[BUSHKALOTE_ROWS];
+static bushkalote_row records[BUSHKALOTE_ROWS + 1];
 static uint16_t roots[BUSHKALOTE_PROCEDURES];
 static uint64_t matrix[BUSHKALOTE_LABELS + 1];
 static uint8_t listing[BUSHKALOTE_LISTING_BYTES];
@@ -90,6 +91,59 @@ static int all_words(uint64_t word)
         if (matrix[i] != word)
             return 0;
     return 1;
+}
+
+/* The three entries on records. */
+static void on_records(void)
+{
+    const size_t full = sizeof whole_listing - 1;
+    const uint8_t *const text = (const uint8_t *)whole_case;
+    const size_t text_len = sizeof whole_case - 1;
+
+    /* Reading: ten records and one root, and nothing beyond. */
+    memset(records, 0x77, sizeof records);
+    memset(roots, 0x77, sizeof roots);
+    expect("read the whole case into records",
+           bushkalote_read_rows(text, text_len, records, BUSHKALOTE_ROWS + 1, roots, BUSHKALOTE_PROCEDURES), 0,
+           10 + 65536 * 1);
+    expect_true("record 5 is seq 3 4", records[5].kind == 2 && records[5].x == 3 && records[5].y == 4);
+    expect_true("the record beyond is untouched",
+                records[10].kind == 0x77 && records[10].x == 0x7777 && records[10].y == 0x7777);
+    expect_true("the roots", roots[0] == 9 && roots[1] == 0x7777);
+
+    /* The analysis and the listing. */
+    memset(matrix, 0xff, sizeof matrix);
+    expect("analyse the whole case on records",
+           bushkalote_analyse_rows(records, 10, roots, 1, matrix, BUSHKALOTE_LABELS + 1), 0, 1);
+    expect_true("the matrix", matrix[0] == 0xe && matrix[1] == 0x5 && matrix[2] == 0x3 && matrix[3] == 0x1);
+    expect_true("the word beyond is untouched", matrix[63] == 0 && matrix[64] == UINT64_MAX);
+    memset(listing, '#', sizeof listing);
+    expect("list the whole case on records",
+           bushkalote_list_rows(records, 10, roots, 1, matrix, BUSHKALOTE_LABELS, listing, sizeof listing), 0,
+           (uint32_t)full);
+    expect_true("the listing", memcmp(listing, whole_listing, full) == 0 && listing[full] == '#');
+
+    /* Refusals leave everything lent as it was. */
+    memset(listing, '#', sizeof listing);
+    memset(matrix, 0x55, sizeof matrix);
+    expect("listing on records in too few bytes",
+           bushkalote_list_rows(records, 10, roots, 1, matrix, BUSHKALOTE_LABELS, listing, full - 1), 14, 0);
+    expect("too many records",
+           bushkalote_analyse_rows(records, BUSHKALOTE_ROWS + 1, roots, 1, matrix, BUSHKALOTE_LABELS), 1, 0);
+    expect("a short matrix for records",
+           bushkalote_analyse_rows(records, 10, roots, 1, matrix, BUSHKALOTE_LABELS - 1), 2, 0);
+    records[4].kind = 7;
+    expect("a record's kind above 6",
+           bushkalote_analyse_rows(records, 10, roots, 1, matrix, BUSHKALOTE_LABELS), 3, 4);
+    records[4].kind = 1;
+    expect_true("the bytes and the matrix are unchanged", listing[0] == '#' && all_words(0x5555555555555555u));
+    memset(records, 0x77, sizeof records);
+    expect("a missing last newline, into records",
+           bushkalote_read_rows(text, text_len - 1, records, BUSHKALOTE_ROWS, roots, BUSHKALOTE_PROCEDURES), 12,
+           10);
+    expect("room for nine of ten records",
+           bushkalote_read_rows(text, text_len, records, 9, roots, BUSHKALOTE_PROCEDURES), 13, 9);
+    expect_true("the records are unchanged", records[0].kind == 0x77 && records[8].y == 0x7777);
 }
 
 int main(void)
@@ -166,6 +220,8 @@ int main(void)
     expect("room for no procedure", read_text(whole_case, 10, 0), 13, 10);
     expect_true("the kinds are unchanged", kinds[0] == 0x77 && kinds[9] == 0x77);
     expect("just enough room", read_text(whole_case, 10, 1), 0, 10 + 65536 * 1);
+
+    on_records();
 
     if (differences != 0) {
         fprintf(stderr, "%d differences\n", differences);

@@ -1,16 +1,20 @@
 /*
  * The panel's entries over standard input and output, for a caller that can't
  * link the library itself. A request is one byte (a, r or l, for analyse,
- * read_sheet and list_pairs), the slices' lengths as 32-bit numbers in the
- * order of the parameters, then the slices' contents in that order. The answer
- * is the reply as a 64-bit number and then the contents of each slice that the
- * entry may write. All numbers are little-endian. Ends at the end of its input.
+ * read_sheet and list_pairs, and A, R or L for the same on records), the
+ * slices' lengths as 32-bit numbers in the order of the parameters, then the
+ * slices' contents in that order. The answer is the reply as a 64-bit number
+ * and then the contents of each slice that the entry may write. All numbers
+ * are little-endian, and a record is the 6 bytes that it has in memory. Ends
+ * at the end of its input.
  */
 #include <stdint.h>
 #include <stdio.h>
 #include <stdlib.h>
 
 #include "panel.h"
+
+_Static_assert(sizeof(bushkalote_row) == 6, "a record has 6 bytes");
 
 enum { SLICES = 6 };
 
@@ -87,6 +91,20 @@ int main(void) {
             answer(bushkalote_list_pairs(s[0].at, s[0].len, s[1].at, s[1].len, s[2].at, s[2].len, s[3].at,
                                          s[3].len, s[4].at, s[4].len, s[5].at, s[5].len),
                    4, 5);
+            break;
+        case 'A':
+            take_slices("628");
+            answer(bushkalote_analyse_rows(s[0].at, s[0].len, s[1].at, s[1].len, s[2].at, s[2].len), 2, 2);
+            break;
+        case 'R':
+            take_slices("162");
+            answer(bushkalote_read_rows(s[0].at, s[0].len, s[1].at, s[1].len, s[2].at, s[2].len), 1, 2);
+            break;
+        case 'L':
+            take_slices("6281");
+            answer(bushkalote_list_rows(s[0].at, s[0].len, s[1].at, s[1].len, s[2].at, s[2].len, s[3].at,
+                                        s[3].len),
+                   2, 3);
             break;
         default:
             fail("no such entry");

@@ -1,2 +1,3 @@
 pub mod CodeLaws
+pub mod HandedOn
 pub mod Unique

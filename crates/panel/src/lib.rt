@@ -1,15 +1,17 @@
-// The way in from C: each entry on plain numbers and slices, a slice as a pointer and a length. A reply is one number (panel.h).
+// The way in from C: each entry on plain slices and on a slice of row records, a slice as a pointer and a length. A reply is one number (panel.h).
 ghost use mathlib.Core.Path.{_≡_};
 ghost use lib.ListN.{length};
 ghost use Rattle.recipe.specs.Tables.{tableOf};
 ghost use Rattle.analysis.specs.Replies.{analysed, matrixAfter};
-ghost use Rattle.recipe.specs.Records.{kindsOf, xsOf, ysOf};
+ghost use Rattle.recipe.specs.Records.{kindsOf, xsOf, ysOf, tableOfRows};
 ghost use Rattle.sheet.specs.Reading.{readInto, rowsOf, rootsOf, replyOf, laid};
+ghost use Rattle.sheet_records.specs.Records.{readRecords};
 ghost use Rattle.listing.specs.Replies.{listed, matrixListed, bytesListed};
 ghost use Rattle.panel.specs.Codes.{refusalCode, analysedCode, readCode, listedCode, WithinCeilings};
 use analysis::Analysed;
 use listing::Listed;
 use numbers::Refusal;
+use recipe::Row;
 use sheet::Read;
 
 // A refusal as one number.
@@ -98,4 +100,38 @@ pub extern "C" fn bushkalote_list_pairs(
     ensures { λ _. ⌜ now (bytes .exit) ≡ bytesListed (tableOf (now (kinds .entry)) (now (xs .entry)) (now (ys .entry)) (now (roots .entry))) (length (now (matrix .entry))) (now (bytes .entry)) ⌝ }
 {
     listed_code(listing::list_pairs(kinds, xs, ys, roots, matrix, bytes))
+}
+
+// The analysis on row records, for a caller in C.
+#[no_mangle]
+pub extern "C" fn bushkalote_analyse_rows(rows: &[Row], roots: &[u16], matrix: &mut [u64]) -> u64
+    ensures { λ n. ⌜ (n ≡ analysedCode (analysed (tableOfRows (now (rows .entry)) (now (roots .entry))) (length (now (matrix .entry)))))
+        × (now (matrix .exit) ≡ matrixAfter (tableOfRows (now (rows .entry)) (now (roots .entry))) (now (matrix .entry))) ⌝ }
+{
+    analysed_code(records::analyse_rows(rows, roots, matrix))
+}
+
+// The reader into row records, for a caller in C.
+#[no_mangle]
+pub extern "C" fn bushkalote_read_rows(bytes: &[u8], rows: &mut [Row], roots: &mut [u16]) -> u64
+    ensures { λ n. ⌜ (n ≡ readCode (replyOf (readRecords (now (bytes .entry)) (now (rows .entry)) (now (roots .entry)))))
+        × (now (rows .exit) ≡ laid (rowsOf (readRecords (now (bytes .entry)) (now (rows .entry)) (now (roots .entry)))) (now (rows .entry)))
+        × (now (roots .exit) ≡ laid (rootsOf (readRecords (now (bytes .entry)) (now (rows .entry)) (now (roots .entry)))) (now (roots .entry))) ⌝ }
+{
+    read_code(sheet_records::read_rows(bytes, rows, roots))
+}
+
+// The listing on row records, for a caller in C.
+#[no_mangle]
+pub extern "C" fn bushkalote_list_rows(
+    rows: &[Row],
+    roots: &[u16],
+    matrix: &mut [u64],
+    bytes: &mut [u8],
+) -> u64
+    ensures { λ n. ⌜ (n ≡ listedCode (listed (tableOfRows (now (rows .entry)) (now (roots .entry))) (length (now (matrix .entry))) (length (now (bytes .entry)))))
+        × (now (matrix .exit) ≡ matrixListed (tableOfRows (now (rows .entry)) (now (roots .entry))) (now (matrix .entry)) (length (now (bytes .entry))))
+        × (now (bytes .exit) ≡ bytesListed (tableOfRows (now (rows .entry)) (now (roots .entry))) (length (now (matrix .entry))) (now (bytes .entry))) ⌝ }
+{
+    listed_code(records::list_rows(rows, roots, matrix, bytes))
 }

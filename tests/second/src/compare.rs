@@ -1,11 +1,12 @@
-//! Compares the second program with the entries of the panel, storage included.
+//! Compares the second program with the entries of the panel, storage included:
+//! each entry on plain slices, and the same one on records.
 //!
 //! Everything lent is filled with a pattern first. After a refusal the pattern
 //! must stand everywhere, after a success everywhere beyond what is promised.
 
 use crate::dice::Dice;
 use crate::panel::{refused, shown, Panel};
-use crate::table::{judge, refusal, Table};
+use crate::table::{judge, refusal, Row, Table};
 use crate::{gen, sheet, work_out, Answer};
 use crate::{LABELS, LISTING_BYTES, PROCEDURES, ROWS};
 
@@ -29,6 +30,20 @@ fn pattern_u16(n: usize, dice: &mut Dice) -> Vec<u16> {
 
 fn pattern_u64(n: usize, dice: &mut Dice) -> Vec<u64> {
     (0..n).map(|_| dice.draw()).collect()
+}
+
+fn pattern_rows(n: usize, dice: &mut Dice) -> Vec<Row> {
+    let (kinds, xs, ys) = (
+        pattern_u8(n, dice),
+        pattern_u16(n, dice),
+        pattern_u16(n, dice),
+    );
+    let record = |i| Row {
+        kind: kinds[i],
+        x: xs[i],
+        y: ys[i],
+    };
+    (0..n).map(record).collect()
 }
 
 fn same_reply(entry: &str, got: u64, want: u64) -> Result<(), String> {
@@ -69,12 +84,47 @@ fn laid_over<T: Copy>(read: &[T], before: &[T]) -> Vec<T> {
     all
 }
 
-/// Compares the reading of a sheet; `room` holds the lengths of kinds, xs, ys and roots.
+/// A recipe that is lent to be read must be as it was.
+fn unwritten(entry: &str, given: &Table, table: &Table) -> Result<(), String> {
+    if given == table {
+        Ok(())
+    } else {
+        Err(format!("{entry}: the recipe was written"))
+    }
+}
+
+/// The reply and the table that reading must give where so much is lent.
+fn readable(bytes: &[u8], rows: usize, procedures: usize) -> (u64, Table) {
+    match sheet::read(bytes, rows.min(ROWS), procedures.min(PROCEDURES)) {
+        Ok(table) => (
+            (table.kinds.len() + 65_536 * table.roots.len()) as u64,
+            table,
+        ),
+        Err(refusal) => (refused(refusal), Table::default()),
+    }
+}
+
+/// Compares the reading of a sheet; `room` holds the lengths of kinds, xs, ys
+/// and roots, and as many records are lent as the shortest of the three has.
 pub fn reading(
     panel: &dyn Panel,
     dice: &mut Dice,
     bytes: &[u8],
     room: [usize; 4],
+) -> Result<(), String> {
+    let rows = room[0].min(room[1]).min(room[2]);
+    let (reply, table) = readable(bytes, rows, room[3]);
+    reading_slices(panel, dice, bytes, room, reply, &table)?;
+    reading_records(panel, dice, bytes, [rows, room[3]], reply, &table)
+}
+
+fn reading_slices(
+    panel: &dyn Panel,
+    dice: &mut Dice,
+    bytes: &[u8],
+    room: [usize; 4],
+    want: u64,
+    table: &Table,
 ) -> Result<(), String> {
     let entry = format!("read_sheet with room {room:?}");
     let kinds_before = pattern_u8(room[0], dice);
@@ -86,15 +136,6 @@ pub fn reading(
     let mut ys = ys_before.clone();
     let mut roots = roots_before.clone();
     let reply = panel.read_sheet(bytes, &mut kinds, &mut xs, &mut ys, &mut roots);
-    let rows = room[0].min(room[1]).min(room[2]).min(ROWS);
-    let procedures = room[3].min(PROCEDURES);
-    let (want, table) = match sheet::read(bytes, rows, procedures) {
-        Ok(table) => (
-            (table.kinds.len() + 65_536 * table.roots.len()) as u64,
-            table,
-        ),
-        Err(refusal) => (refused(refusal), Table::default()),
-    };
     same_reply(&entry, reply, want)?;
     same(
         &entry,
@@ -112,6 +153,31 @@ pub fn reading(
     )
 }
 
+fn reading_records(
+    panel: &dyn Panel,
+    dice: &mut Dice,
+    bytes: &[u8],
+    room: [usize; 2],
+    want: u64,
+    table: &Table,
+) -> Result<(), String> {
+    let entry = format!("read_rows with room {room:?}");
+    let rows_before = pattern_rows(room[0], dice);
+    let roots_before = pattern_u16(room[1], dice);
+    let mut rows = rows_before.clone();
+    let mut roots = roots_before.clone();
+    let reply = panel.read_rows(bytes, &mut rows, &mut roots);
+    let read = table.records().expect("a table that was read is even");
+    same_reply(&entry, reply, want)?;
+    same(&entry, "rows", &rows, &laid_over(&read, &rows_before))?;
+    same(
+        &entry,
+        "roots",
+        &roots,
+        &laid_over(&table.roots, &roots_before),
+    )
+}
+
 /// Compares the analysis; `answer` is the second program's, if the table is admitted.
 pub fn analysing(
     panel: &dyn Panel,
@@ -120,29 +186,42 @@ pub fn analysing(
     answer: Option<&Answer>,
     words: usize,
 ) -> Result<(), String> {
+    let given = table.clone();
     let entry = format!("analyse with {words} words");
+    analysed(&entry, dice, table, answer, words, |matrix| {
+        panel.analyse(&given.kinds, &given.xs, &given.ys, &given.roots, matrix)
+    })?;
+    unwritten(&entry, &given, table)?;
+    let Some(rows) = table.records() else {
+        return Ok(());
+    };
+    let entry = format!("analyse_rows with {words} words");
+    analysed(&entry, dice, table, answer, words, |matrix| {
+        panel.analyse_rows(&rows, &given.roots, matrix)
+    })?;
+    unwritten(&entry, &Table::of_records(&rows, &given.roots), table)
+}
+
+fn analysed(
+    entry: &str,
+    dice: &mut Dice,
+    table: &Table,
+    answer: Option<&Answer>,
+    words: usize,
+    ask: impl Fn(&mut [u64]) -> u64,
+) -> Result<(), String> {
     let before = pattern_u64(words, dice);
     let mut matrix = before.clone();
-    let given = table.clone();
-    let reply = panel.analyse(
-        &given.kinds,
-        &given.xs,
-        &given.ys,
-        &given.roots,
-        &mut matrix,
-    );
-    if given != *table {
-        return Err(format!("{entry}: the recipe was written"));
-    }
+    let reply = ask(&mut matrix);
     match (judge(table, words), answer) {
         (Err(refusal), _) => {
-            same_reply(&entry, reply, refused(refusal))?;
-            same(&entry, "matrix", &matrix, &before)
+            same_reply(entry, reply, refused(refusal))?;
+            same(entry, "matrix", &matrix, &before)
         }
         (Ok(()), Some(answer)) => {
-            same_reply(&entry, reply, answer.rounds as u64)?;
+            same_reply(entry, reply, answer.rounds as u64)?;
             same(
-                &entry,
+                entry,
                 "matrix",
                 &matrix,
                 &laid_over(&answer.matrix, &before),
@@ -161,23 +240,43 @@ pub fn listing(
     words: usize,
     room: usize,
 ) -> Result<(), String> {
+    let given = table.clone();
+    let lent = (words, room);
     let entry = format!("list_pairs with {words} words and {room} bytes");
+    listed(&entry, dice, table, answer, lent, |matrix, bytes| {
+        panel.list_pairs(
+            &given.kinds,
+            &given.xs,
+            &given.ys,
+            &given.roots,
+            matrix,
+            bytes,
+        )
+    })?;
+    unwritten(&entry, &given, table)?;
+    let Some(rows) = table.records() else {
+        return Ok(());
+    };
+    let entry = format!("list_rows with {words} words and {room} bytes");
+    listed(&entry, dice, table, answer, lent, |matrix, bytes| {
+        panel.list_rows(&rows, &given.roots, matrix, bytes)
+    })?;
+    unwritten(&entry, &Table::of_records(&rows, &given.roots), table)
+}
+
+fn listed(
+    entry: &str,
+    dice: &mut Dice,
+    table: &Table,
+    answer: Option<&Answer>,
+    (words, room): (usize, usize),
+    ask: impl Fn(&mut [u64], &mut [u8]) -> u64,
+) -> Result<(), String> {
     let matrix_before = pattern_u64(words, dice);
     let bytes_before = pattern_u8(room, dice);
     let mut matrix = matrix_before.clone();
     let mut bytes = bytes_before.clone();
-    let given = table.clone();
-    let reply = panel.list_pairs(
-        &given.kinds,
-        &given.xs,
-        &given.ys,
-        &given.roots,
-        &mut matrix,
-        &mut bytes,
-    );
-    if given != *table {
-        return Err(format!("{entry}: the recipe was written"));
-    }
+    let reply = ask(&mut matrix, &mut bytes);
     let fits = answer.is_some_and(|a| a.listing.len() <= room);
     let refusal = match judge(table, words) {
         Err(refusal) => Some(refusal),
@@ -186,24 +285,24 @@ pub fn listing(
     };
     match (refusal, answer) {
         (None, Some(answer)) => {
-            same_reply(&entry, reply, answer.listing.len() as u64)?;
+            same_reply(entry, reply, answer.listing.len() as u64)?;
             same(
-                &entry,
+                entry,
                 "matrix",
                 &matrix,
                 &laid_over(&answer.matrix, &matrix_before),
             )?;
             same(
-                &entry,
+                entry,
                 "bytes",
                 &bytes,
                 &laid_over(&answer.listing, &bytes_before),
             )
         }
         (Some(refusal), _) => {
-            same_reply(&entry, reply, refused(refusal))?;
-            same(&entry, "matrix", &matrix, &matrix_before)?;
-            same(&entry, "bytes", &bytes, &bytes_before)
+            same_reply(entry, reply, refused(refusal))?;
+            same(entry, "matrix", &matrix, &matrix_before)?;
+            same(entry, "bytes", &bytes, &bytes_before)
         }
         (None, None) => Err("an admitted table without an answer".to_string()),
     }

@@ -1,9 +1,9 @@
-//! The three entries of the static library, as a trait: the same comparisons
+//! The six entries of the static library, as a trait: the same comparisons
 //! run on the library and on any other version of the same work.
 //!
 //! A reply is one number: the refusal's number × 2³² + a value, 0 for success.
 
-use crate::table::Refusal;
+use crate::table::{Refusal, Row};
 
 pub trait Panel {
     fn analyse(
@@ -33,6 +33,12 @@ pub trait Panel {
         matrix: &mut [u64],
         bytes: &mut [u8],
     ) -> u64;
+
+    fn analyse_rows(&self, rows: &[Row], roots: &[u16], matrix: &mut [u64]) -> u64;
+
+    fn read_rows(&self, bytes: &[u8], rows: &mut [Row], roots: &mut [u16]) -> u64;
+
+    fn list_rows(&self, rows: &[Row], roots: &[u16], matrix: &mut [u64], bytes: &mut [u8]) -> u64;
 }
 
 /// The reply for a refusal.
@@ -67,6 +73,8 @@ pub struct Library;
 
 #[cfg(panel)]
 mod linked {
+    use crate::table::Row;
+
     extern "C" {
         pub fn bushkalote_analyse(
             kinds: *const u8,
@@ -99,6 +107,32 @@ mod linked {
             xs_len: usize,
             ys: *const u16,
             ys_len: usize,
+            roots: *const u16,
+            roots_len: usize,
+            matrix: *mut u64,
+            matrix_len: usize,
+            bytes: *mut u8,
+            bytes_len: usize,
+        ) -> u64;
+        pub fn bushkalote_analyse_rows(
+            rows: *const Row,
+            rows_len: usize,
+            roots: *const u16,
+            roots_len: usize,
+            matrix: *mut u64,
+            matrix_len: usize,
+        ) -> u64;
+        pub fn bushkalote_read_rows(
+            bytes: *const u8,
+            bytes_len: usize,
+            rows: *mut Row,
+            rows_len: usize,
+            roots: *mut u16,
+            roots_len: usize,
+        ) -> u64;
+        pub fn bushkalote_list_rows(
+            rows: *const Row,
+            rows_len: usize,
             roots: *const u16,
             roots_len: usize,
             matrix: *mut u64,
@@ -178,6 +212,47 @@ impl Panel for Library {
                 xs.len(),
                 ys.as_ptr(),
                 ys.len(),
+                roots.as_ptr(),
+                roots.len(),
+                matrix.as_mut_ptr(),
+                matrix.len(),
+                bytes.as_mut_ptr(),
+                bytes.len(),
+            )
+        }
+    }
+
+    fn analyse_rows(&self, rows: &[Row], roots: &[u16], matrix: &mut [u64]) -> u64 {
+        unsafe {
+            linked::bushkalote_analyse_rows(
+                rows.as_ptr(),
+                rows.len(),
+                roots.as_ptr(),
+                roots.len(),
+                matrix.as_mut_ptr(),
+                matrix.len(),
+            )
+        }
+    }
+
+    fn read_rows(&self, bytes: &[u8], rows: &mut [Row], roots: &mut [u16]) -> u64 {
+        unsafe {
+            linked::bushkalote_read_rows(
+                bytes.as_ptr(),
+                bytes.len(),
+                rows.as_mut_ptr(),
+                rows.len(),
+                roots.as_mut_ptr(),
+                roots.len(),
+            )
+        }
+    }
+
+    fn list_rows(&self, rows: &[Row], roots: &[u16], matrix: &mut [u64], bytes: &mut [u8]) -> u64 {
+        unsafe {
+            linked::bushkalote_list_rows(
+                rows.as_ptr(),
+                rows.len(),
                 roots.as_ptr(),
                 roots.len(),
                 matrix.as_mut_ptr(),

@@ -2,6 +2,7 @@
 //! for a machine that can only run the library emulated.
 
 use crate::panel::Panel;
+use crate::table::Row;
 use std::cell::RefCell;
 use std::io::{BufReader, BufWriter, Read, Write};
 use std::path::Path;
@@ -22,15 +23,15 @@ struct Line {
 
 pub struct Remote(RefCell<Line>);
 
-/// A number as its bytes, the lowest first.
-trait Number: Copy {
+/// An element as its bytes in memory, those of a number the lowest first.
+trait Element: Copy {
     fn put(self, to: &mut Vec<u8>);
     fn get(from: &[u8]) -> Self;
 }
 
 macro_rules! number {
     ($($t:ty)*) => {$(
-        impl Number for $t {
+        impl Element for $t {
             fn put(self, to: &mut Vec<u8>) {
                 to.extend_from_slice(&self.to_le_bytes());
             }
@@ -43,8 +44,24 @@ macro_rules! number {
 
 number!(u8 u16 u32 u64);
 
-fn put<T: Number>(to: &mut Vec<u8>, slice: &[T]) {
-    slice.iter().for_each(|n| n.put(to));
+impl Element for Row {
+    // The byte after the kind has no meaning, and is not always the same.
+    fn put(self, to: &mut Vec<u8>) {
+        to.extend_from_slice(&[self.kind, !self.kind]);
+        self.x.put(to);
+        self.y.put(to);
+    }
+    fn get(from: &[u8]) -> Self {
+        Row {
+            kind: from[0],
+            x: u16::get(&from[2..4]),
+            y: u16::get(&from[4..6]),
+        }
+    }
+}
+
+fn put<T: Element>(to: &mut Vec<u8>, slice: &[T]) {
+    slice.iter().for_each(|e| e.put(to));
 }
 
 fn lengths(entry: u8, all: &[usize]) -> Vec<u8> {
@@ -63,12 +80,14 @@ impl Line {
         reply[0]
     }
 
-    fn fill<T: Number>(&mut self, slice: &mut [T]) {
+    fn fill<T: Element>(&mut self, slice: &mut [T]) {
         let width = std::mem::size_of::<T>();
-        let mut bytes = vec![0; slice.len() * width];
-        self.from.read_exact(&mut bytes).expect("the server answers");
-        for (n, from) in slice.iter_mut().zip(bytes.chunks_exact(width)) {
-            *n = T::get(from);
+        let mut bytes = vec![0; std::mem::size_of_val(slice)];
+        self.from
+            .read_exact(&mut bytes)
+            .expect("the server answers");
+        for (e, from) in slice.iter_mut().zip(bytes.chunks_exact(width)) {
+            *e = T::get(from);
         }
     }
 }
@@ -166,6 +185,42 @@ impl Panel for Remote {
         put(&mut request, kinds);
         put(&mut request, xs);
         put(&mut request, ys);
+        put(&mut request, roots);
+        put(&mut request, matrix);
+        put(&mut request, bytes);
+        let mut line = self.0.borrow_mut();
+        let reply = line.ask(&request);
+        line.fill(matrix);
+        line.fill(bytes);
+        reply
+    }
+
+    fn analyse_rows(&self, rows: &[Row], roots: &[u16], matrix: &mut [u64]) -> u64 {
+        let mut request = lengths(b'A', &[rows.len(), roots.len(), matrix.len()]);
+        put(&mut request, rows);
+        put(&mut request, roots);
+        put(&mut request, matrix);
+        let mut line = self.0.borrow_mut();
+        let reply = line.ask(&request);
+        line.fill(matrix);
+        reply
+    }
+
+    fn read_rows(&self, bytes: &[u8], rows: &mut [Row], roots: &mut [u16]) -> u64 {
+        let mut request = lengths(b'R', &[bytes.len(), rows.len(), roots.len()]);
+        put(&mut request, bytes);
+        put(&mut request, rows);
+        put(&mut request, roots);
+        let mut line = self.0.borrow_mut();
+        let reply = line.ask(&request);
+        line.fill(rows);
+        line.fill(roots);
+        reply
+    }
+
+    fn list_rows(&self, rows: &[Row], roots: &[u16], matrix: &mut [u64], bytes: &mut [u8]) -> u64 {
+        let mut request = lengths(b'L', &[rows.len(), roots.len(), matrix.len(), bytes.len()]);
+        put(&mut request, rows);
         put(&mut request, roots);
         put(&mut request, matrix);
         put(&mut request, bytes);

@@ -11,6 +11,15 @@ pub struct Table {
     pub roots: Vec<u16>,
 }
 
+/// A row as a record, as panel.h lays it out.
+#[repr(C)]
+#[derive(Clone, Copy, Debug, PartialEq, Eq)]
+pub struct Row {
+    pub kind: u8,
+    pub x: u16,
+    pub y: u16,
+}
+
 /// A refusal: its number and its place.
 #[derive(Clone, Copy, Debug, PartialEq, Eq)]
 pub struct Refusal {
@@ -35,6 +44,29 @@ impl Table {
 
     pub fn rows(&self) -> usize {
         self.kinds.len()
+    }
+
+    /// The rows as records; a table of uneven slices has none.
+    pub fn records(&self) -> Option<Vec<Row>> {
+        if self.xs.len() != self.rows() || self.ys.len() != self.rows() {
+            return None;
+        }
+        let record = |i| Row {
+            kind: self.kinds[i],
+            x: self.xs[i],
+            y: self.ys[i],
+        };
+        Some((0..self.rows()).map(record).collect())
+    }
+
+    /// The table of these records and roots.
+    pub fn of_records(rows: &[Row], roots: &[u16]) -> Table {
+        Table {
+            kinds: rows.iter().map(|row| row.kind).collect(),
+            xs: rows.iter().map(|row| row.x).collect(),
+            ys: rows.iter().map(|row| row.y).collect(),
+            roots: roots.to_vec(),
+        }
     }
 
     /// The child rows of a row whose kind and operands are in order.

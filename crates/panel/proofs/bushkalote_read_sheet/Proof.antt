@@ -1,7 +1,6 @@
 -- `bushkalote_read_sheet` meets its contract: it hands on the reader's reply as its code, and no reading passes the ceilings.
 -- Assumes nothing.
 use mathlib.Core.Path.{sym, ap, _∙_, subst}
-use denote.Ref.{now}
 use Rattle.panel.specs.Codes.{readCode, WithinCeilings}
 use Rattle.panel.proofs.CodeLaws.{reading-within}
 use borrow.Author.Needs.{needs}
@@ -13,8 +12,7 @@ read-sheet-requires c κs = search needs
 
 read-code-requires : tie.Need-read-code-requires
 read-code-requires c κs =
-    let a = c .before .before .before .before .before .before .before .before .before .before .before .before .before .before .before .before .before .before .args in
-    subst WithinCeilings (sym (c .before .before .before .before .before .before .before .before .read-sheet .ensures .0)) (reading-within (now (a .bytes)) (now (a .kinds)) (now (a .xs)) (now (a .ys)) (now (a .roots)))
+    subst WithinCeilings (sym (c .before .before .before .before .before .before .before .before .read-sheet .ensures .0)) (reading-within _ _ _)
 
 same-length : tie.Need-same-length
 same-length c = search needs
