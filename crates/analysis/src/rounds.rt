@@ -16,7 +16,6 @@ ghost use Rattle.analysis.specs.Storage.{Ready, Turn, Sizes, Stored, Sto
 use crate::rows::row_summary;
 use crate::summary::Summary;
 use labels::Label;
-use labels::matrix;
 use numbers::ProcNumber;
 
 // The summary of a body, its pairs alone in the lent matrix.

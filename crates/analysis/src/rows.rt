@@ -10,7 +10,6 @@ ghost use Rattle.recipe.specs.Alone.{rowsAlone};
 ghost use Rattle.analysis.specs.Storage.{Sizes, Ready, summaryWords, sequenced, repeated, markedInto, heldFor};
 use crate::summary::Summary;
 use labels::Label;
-use labels::matrix;
 use numbers::ProcNumber;
 
 // Two statements one after the other: what the first leaves running meets what the second runs.

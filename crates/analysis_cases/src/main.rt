@@ -1,4 +1,5 @@
 // Runs the analysis on recipes that document 01 leaves to a run, and writes a line for each: its name, the rounds, the word and the number of pairs, or the refusal.
+ghost use Prim.Native.Nat.{_<_};
 use analysis::Analysed;
 use labels::Label;
 use libc::STDOUT_FILENO;
@@ -41,7 +42,7 @@ fn case(name: &[u8], kinds: &[u8], xs: &[u16], ys: &[u16], roots: &[u16]) {
         Analysed::Rounds(k) => {
             field(k);
             write_word(word::word(kinds, xs, ys, roots));
-            field(labels::matrix::count(&matrix));
+            field(matrix::count(&matrix));
         }
         Analysed::Refused(r) => refused(r),
     }
@@ -101,26 +102,6 @@ fn ring(name: &[u8], n: u16) {
     part(name, &kinds, &xs, &ys, at + 6, &roots, n as usize);
 }
 
-// The kind of row i of the chain: async and loop in turn.
-fn chain_kind(i: u16) -> u8 {
-    if i % 2 == 1 { 4 } else { 3 }
-}
-
-// A step under async and loop in turn, as deep as a table allows.
-fn chain(name: &[u8]) {
-    let mut kinds = [1u8; RowNumber::CEILING];
-    let mut xs = [0u16; RowNumber::CEILING];
-    let ys = [0u16; RowNumber::CEILING];
-    let roots = [1023u16];
-    let mut i: u16 = 1;
-    while i < 1024 {
-        kinds[i as usize] = chain_kind(i);
-        xs[i as usize] = i - 1;
-        i += 1;
-    }
-    case(name, &kinds, &xs, &ys, &roots);
-}
-
 // The kind of row i of the full table.
 fn full_kind(i: u16) -> u8 {
     match i % 16 {
@@ -152,22 +133,51 @@ fn full_y(i: u16) -> u16 {
     if i % 16 == 3 { below(i, 1) } else { 0 }
 }
 
-// As many rows and procedures as a table may have. Procedure f is loops round async{f} and a call of the next; the last calls
-// nobody. So every label meets every label.
-fn full(name: &[u8]) {
+// The kind of row i: of the chain, a step and then async and loop in turn, or of the full table.
+fn kind_of(chain: bool, i: u16) -> u8 {
+    if !chain {
+        return full_kind(i);
+    }
+    if i == 0 {
+        return 1;
+    }
+    if i % 2 == 1 { 4 } else { 3 }
+}
+
+// The first operand of row i.
+fn x_of(chain: bool, i: u16) -> u16 {
+    if chain { below(i, 1) } else { full_x(i) }
+}
+
+// The second operand of row i.
+fn y_of(chain: bool, i: u16) -> u16 {
+    if chain { 0 } else { full_y(i) }
+}
+
+// The procedure that row i belongs to: its last row is its root.
+fn procedure_of(chain: bool, i: u16) -> usize
+    ensures { λ r. ⌜ (i < 1024 → r < 64) ⌝ }
+{
+    if chain { 0 } else { (i / 16) as usize }
+}
+
+// As many rows as a table may have. The chain is a step under async and loop in turn, as deep as can be. In the full table there are
+// as many procedures as can be, and procedure f is loops round async{f} and a call of the next; the last calls nobody, so every label
+// meets every label.
+fn large(name: &[u8], chain: bool, procs: usize) {
     let mut kinds = [0u8; RowNumber::CEILING];
     let mut xs = [0u16; RowNumber::CEILING];
     let mut ys = [0u16; RowNumber::CEILING];
     let mut roots = [0u16; ProcNumber::CEILING];
     let mut i: u16 = 0;
     while i < 1024 {
-        kinds[i as usize] = full_kind(i);
-        xs[i as usize] = full_x(i);
-        ys[i as usize] = full_y(i);
-        roots[(i / 16) as usize] = i;
+        kinds[i as usize] = kind_of(chain, i);
+        xs[i as usize] = x_of(chain, i);
+        ys[i as usize] = y_of(chain, i);
+        roots[procedure_of(chain, i)] = i;
         i += 1;
     }
-    case(name, &kinds, &xs, &ys, &roots);
+    part(name, &kinds, &xs, &ys, RowNumber::CEILING, &roots, procs);
 }
 
 fn main() {
@@ -183,6 +193,6 @@ fn main() {
     ring(b"ring of 2", 2);
     ring(b"ring of 3", 3);
     ring(b"ring of 64", 64);
-    chain(b"chain");
-    full(b"full");
+    large(b"chain", true, 1);
+    large(b"full", false, ProcNumber::CEILING);
 }

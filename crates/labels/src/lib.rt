@@ -1,10 +1,8 @@
-// Sets of labels, each one 64-bit number with label l at bit l, and the matrix of label pairs.
+// Sets of labels, each one 64-bit number with label l at bit l.
 ghost use mathlib.Core.Path.{_≡_};
 ghost use mathlib.Core.List.{_∷_, []};
 ghost use lib.Dec.{eqb};
-ghost use Rattle.labels.specs.Sets.{ceiling, member, single, union};
-
-pub mod matrix;
+ghost use Rattle.labels.specs.Sets.{member, single, union};
 
 // A step's label. It is no procedure number and no row number.
 pub struct Label(pub u8);
@@ -12,13 +10,6 @@ pub struct Label(pub u8);
 impl Label {
     // Labels are below this number: one word holds a set of them.
     pub const CEILING: usize = 64;
-
-    // The ceiling, as the definitions have it for sets of one word.
-    pub fn ceiling() -> usize
-        ensures { λ r. ⌜ r ≡ ceiling 1 ⌝ }
-    {
-        Label::CEILING
-    }
 
     // The set of this label alone, and the empty set where the label is not below the ceiling.
     pub fn alone(self) -> u64

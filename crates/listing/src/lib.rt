@@ -65,14 +65,14 @@ fn hand_over(matrix: &mut [u64], bytes: &mut [u8], pairs: &[u64], rounds: u32, w
     ensures { λ r. ⌜ now (matrix .exit) ≡ heldAfter (now (pairs .entry) ++ drop (matrixWords 1) (now (matrix .entry))) (now (matrix .entry)) r ⌝ }
     ensures { λ r. ⌜ now (bytes .exit) ≡ heldAfter (inFront (listing 1 (now (pairs .entry)) rounds wide) (now (bytes .entry))) (now (bytes .entry)) r ⌝ }
 {
-    let count = labels::matrix::count(pairs);
+    let count = matrix::count(pairs);
     let needed = listing_length(pairs, count, rounds, wide);
     if bytes.len() < needed {
         return Listed::Refused(Refusal::LongListing);
     }
     put_listing(bytes, pairs, count, rounds, wide);
-    labels::matrix::clear(matrix);
-    labels::matrix::merge(matrix, pairs);
+    matrix::clear(matrix);
+    matrix::merge(matrix, pairs);
     Listed::Length(needed)
 }
 

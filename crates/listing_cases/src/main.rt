@@ -49,10 +49,14 @@ fn case(name: &[u8], kinds: &[u8], xs: &[u16], ys: &[u16], roots: &[u16]) {
     show(reply, &bytes);
 }
 
-// The recipes with one procedure.
-fn one_procedure() {
+// Recipes 1 and 2: a skip and a step.
+fn single_steps() {
     case(b"1", &[0u8], &[0u16], &[0u16], &[0u16]);
     case(b"2", &[1u8], &[5u16], &[0u16], &[0u16]);
+}
+
+// Recipes 3 and 4: a side branch, and one with a wait.
+fn side_branches() {
     case(
         b"3",
         &[1u8, 4, 1, 2],
@@ -67,8 +71,16 @@ fn one_procedure() {
         &[0u16, 0, 0, 0, 3],
         &[4u16],
     );
+}
+
+// Recipes 5 and 6: a loop round a side branch, and round a step.
+fn loops() {
     case(b"5", &[1u8, 4, 3], &[0u16, 0, 1], &[0u16, 0, 0], &[2u16]);
     case(b"6", &[1u8, 3], &[0u16, 0], &[0u16, 0], &[1u16]);
+}
+
+// Recipe 7: a side branch in a side branch.
+fn nested_branch() {
     case(
         b"7",
         &[1u8, 1, 4, 2, 4, 1, 2],
@@ -78,8 +90,8 @@ fn one_procedure() {
     );
 }
 
-// The recipes with calls.
-fn with_calls() {
+// Recipes 8 and 9: a side branch in a procedure, and one with a wait.
+fn called_branches() {
     case(
         b"8",
         &[6u8, 1, 2, 1, 4],
@@ -94,6 +106,10 @@ fn with_calls() {
         &[0u16, 0, 1, 0, 0, 0],
         &[2u16, 5],
     );
+}
+
+// Recipes 10 and 11: main calls itself, and a procedure that main calls does.
+fn self_calls() {
     case(
         b"10",
         &[6u8, 1, 2, 6, 4, 2],
@@ -108,6 +124,10 @@ fn with_calls() {
         &[0u16, 0, 0, 2, 0, 0],
         &[4u16, 5],
     );
+}
+
+// Recipe 12: a procedure that nobody calls calls itself.
+fn uncalled() {
     case(b"12", &[0u8, 6], &[0u16, 1], &[0u16, 0], &[0u16, 1]);
 }
 
@@ -190,7 +210,8 @@ fn all_meet(room: usize) {
     rows_listed(&kinds, &xs, &ys, room);
 }
 
-fn main() {
+// The whole case.
+fn whole_case() {
     case(
         b"whole case",
         &[1u8, 4, 1, 4, 1, 2, 5, 1, 2, 2],
@@ -198,8 +219,10 @@ fn main() {
         &[0u16, 0, 0, 0, 0, 4, 0, 0, 7, 8],
         &[9u16],
     );
-    one_procedure();
-    with_calls();
+}
+
+// Refusals that the judge gives.
+fn refusals() {
     case(
         b"slices of different lengths",
         &[0u8, 0],
@@ -208,13 +231,35 @@ fn main() {
         &[0u16],
     );
     case(b"unknown kind", &[0u8, 7], &[0u16, 0], &[0u16, 0], &[0u16]);
+}
+
+// A matrix and bytes that are too short, and just enough.
+fn rooms() {
     io::write_all(STDOUT_FILENO, b"# a matrix one word short\n");
     whole(&mut [7u64; Label::CEILING - 1], 64);
     io::write_all(STDOUT_FILENO, b"# one byte short\n");
     whole(&mut [7u64; Label::CEILING + 1], 38);
     io::write_all(STDOUT_FILENO, b"# just enough\n");
     whole(&mut [7u64; Label::CEILING + 1], 39);
+}
+
+// As many pairs as there can be.
+fn every_pair() {
     io::write_all(STDOUT_FILENO, b"# every pair, and one byte short of them\n");
     all_meet(11856);
     all_meet(11855);
+}
+
+fn main() {
+    whole_case();
+    single_steps();
+    side_branches();
+    loops();
+    nested_branch();
+    called_branches();
+    self_calls();
+    uncalled();
+    refusals();
+    rooms();
+    every_pair();
 }

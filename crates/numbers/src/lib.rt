@@ -1,6 +1,5 @@
 // Numbers of rows, procedures and lines, kept apart, with their ceilings, and the numbered refusals.
 ghost use mathlib.Core.Path.{_≡_};
-ghost use Rattle.numbers.specs.Ceilings.{rowCeiling, procCeiling, sheetCeiling};
 ghost use Rattle.numbers.specs.Refusals.{refusalNumber, refusalPlace};
 
 // The number of a row. It is no procedure number and no label.
@@ -9,13 +8,6 @@ pub struct RowNumber(pub u16);
 impl RowNumber {
     // A table has at most this many rows.
     pub const CEILING: usize = 1024;
-
-    // The ceiling, as the definitions have it.
-    pub fn ceiling() -> usize
-        ensures { λ r. ⌜ r ≡ rowCeiling ⌝ }
-    {
-        RowNumber::CEILING
-    }
 }
 
 // The number of a procedure. Procedure 0 is main.
@@ -24,13 +16,6 @@ pub struct ProcNumber(pub u16);
 impl ProcNumber {
     // A table has at most this many procedures.
     pub const CEILING: usize = 64;
-
-    // The ceiling, as the definitions have it.
-    pub fn ceiling() -> usize
-        ensures { λ r. ⌜ r ≡ procCeiling ⌝ }
-    {
-        ProcNumber::CEILING
-    }
 }
 
 // The number of a sheet's line, counted from 0.
@@ -42,13 +27,6 @@ pub struct SheetSize(pub usize);
 impl SheetSize {
     // A sheet has at most this many bytes.
     pub const CEILING: usize = 65536;
-
-    // The ceiling, as the definitions have it.
-    pub fn ceiling() -> usize
-        ensures { λ r. ⌜ r ≡ sheetCeiling ⌝ }
-    {
-        SheetSize::CEILING
-    }
 }
 
 // Every reply that refuses, with the place that it names.

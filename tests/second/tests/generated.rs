@@ -10,9 +10,9 @@ use second::{compare, gen, printed, sheet, LABELS, PROCEDURES, ROWS};
 use std::collections::BTreeMap;
 
 /// Sheets for the report program: each is a process of its own.
-const PROGRAM_SHEETS: u64 = 3000;
+const PROGRAM_SHEETS: u64 = 600;
 /// Sheets and tables in process.
-const CASES: u64 = 8_000;
+const CASES: u64 = 2_000;
 
 #[test]
 fn the_generator_s_recipes_are_admitted_and_of_many_shapes() {

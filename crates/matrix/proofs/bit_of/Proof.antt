@@ -1,0 +1,18 @@
+-- `bit_of` meets its contract: the shift and the remainder are the bit.
+-- Assumes nothing.
+use mathlib.Core.Path.{sym}
+use Rattle.labels.specs.Words.{bit}
+use Rattle.labels.proofs.OneWord.{member-one}
+use borrow.Author.Needs.{needs}
+use Rattle.matrix.proofs.bit_of.Statement.{statement}
+use Rattle.matrix.proofs.bit_of.Tie as tie
+
+shr-result : tie.Need-shr-result
+shr-result c = search needs
+
+returns : tie.Need-returns
+unfolding bit
+returns c = sym (member-one (c .args .set) (c .args .i) (c .pre))
+
+pub bit-of-spec : {M : Type 1} → statement M
+bit-of-spec = tie.close (tie.spec shr-result returns)

@@ -1,0 +1,94 @@
+-- `count` meets its contract: the sum after i turns is that of the first i words, each masked from its own label on.
+-- Assumes nothing.
+use mathlib.Core.Path.{_≡_, refl, sym, ap, ap₂, _∙_}
+use mathlib.Core.List.{List}
+use Prim.Native.Nat.{ℕ, _+_, _-_, _*_, _≤_, _<_}
+use native.Mathlib.Numerals.{add-one}
+use denote.Ref.{now}
+use lib.Bits.{bitAnd, and-lt}
+use lib.Count.{ones, ones-le}
+use lib.ListN.{getD}
+use lib.Pow.{pow-pos}
+use Rattle.labels.specs.Words.{wordBits, Words, sumBelow}
+use Rattle.labels.specs.Sets.{ceiling}
+use Rattle.labels.proofs.CountLaws.{highMask}
+use Rattle.labels.proofs.SumLaws.{sum-bounded}
+use Rattle.labels.proofs.OneWord.{pairs-one}
+use borrow.Author.Needs.{needs}
+use native.Mathlib.Omega.{arith}
+use Rattle.matrix.proofs.count.Statement.{statement}
+use Rattle.matrix.proofs.count.Tie as tie
+
+-- the pairs of the first i labels
+pairsBelow : List ℕ → ℕ → ℕ
+pairsBelow m i = sumBelow i (λ k. ones (bitAnd (getD m k 0) (highMask k)))
+
+row-few : (m : List ℕ) → Words m → (k : ℕ) → k < ceiling 1 → ones (bitAnd (getD m k 0) (highMask k)) ≤ wordBits
+row-few m wm k h = ones-le wordBits _ (and-lt wordBits (getD m k 0) (highMask k) (wm k) (omega (arith, pow-pos k)))
+
+pairs-few : (m : List ℕ) → Words m → (i : ℕ) → i ≤ ceiling 1 → pairsBelow m i ≤ i * wordBits
+unfolding pairsBelow
+pairs-few m wm i h = sum-bounded i wordBits _ (λ k l. row-few m wm k (omega arith))
+
+abbrev Inv-loop : tie.InvT-loop
+Inv-loop matrix sum₀ i₀ sum i = (i ≤ ceiling 1) × (sum ≡ pairsBelow matrix i)
+
+abbrev μ-loop : tie.MeasureT-loop
+μ-loop matrix sum₀ i₀ sum i = ceiling 1 - i
+
+loop-holds : tie.Need-loop-holds Inv-loop μ-loop
+unfolding pairsBelow sumBelow
+loop-holds c =
+    (search needs, refl)
+
+word-at-requires : tie.Need-word-at-requires Inv-loop μ-loop
+word-at-requires c κs = search needs
+
+pairs-from-requires : tie.Need-pairs-from-requires Inv-loop μ-loop
+pairs-from-requires c κs = omega arith
+
+add-sum : tie.Need-add-sum Inv-loop μ-loop
+add-sum c =
+    let l = c .before .before .before .loop in
+    let m = c .before .before .before .before .before .args .matrix .now in
+    let wm : Words m = λ k. c .before .before .before .before .shared-slice-known .given k .fits in
+    let h : l .i < ceiling 1 = c .before .before .loop-test .taken in
+    let counted : c .pairs-from .result ≡ ones (bitAnd (getD m (l .i) 0) (highMask (l .i))) = c .pairs-from .ensures ∙ ap (λ (x : ℕ). ones (bitAnd x (highMask (l .i)))) (c .before .word-at .ensures) in
+    omega (arith, pairs-few m wm (l .i) (l .inv .0), row-few m wm (l .i) h)
+
+add-i : tie.Need-add-i Inv-loop μ-loop
+add-i c = omega arith
+
+loop-less : tie.Need-loop-less Inv-loop μ-loop
+loop-less c = omega arith
+
+loop-again : tie.Need-loop-again Inv-loop μ-loop
+unfolding pairsBelow sumBelow
+loop-again c =
+    let l = c .before .before .before .loop in
+    let m = c .before .before .before .before .before .args .matrix .now in
+    let counted : c .pairs-from .result ≡ ones (bitAnd (getD m (l .i) 0) (highMask (l .i))) = c .pairs-from .ensures ∙ ap (λ (x : ℕ). ones (bitAnd x (highMask (l .i)))) (c .before .word-at .ensures) in
+    (omega arith, ap₂ _+_ (l .inv .1) counted ∙ sym (ap (pairsBelow m) (add-one (l .i))))
+
+returns : tie.Need-returns Inv-loop μ-loop
+unfolding pairsBelow
+returns c =
+    let l = c .before .loop in
+    let done : l .i ≡ ceiling 1 = omega arith in
+    let m = c .before .before .before .args .matrix in
+    l .inv .1 ∙ ap (pairsBelow (now m)) done ∙ sym (pairs-one (now m) (λ k. c .before .before .shared-slice-known .given k .fits))
+
+pub count-spec : {M : Type 1} → statement M
+count-spec =
+    tie.close
+    (tie.spec
+    Inv-loop
+    μ-loop
+    loop-holds
+    word-at-requires
+    pairs-from-requires
+    add-sum
+    add-i
+    loop-less
+    loop-again
+    returns)

@@ -1,0 +1,32 @@
+-- `crossed_word` meets its contract: a bit times a word fits a word, and the bits are the memberships.
+-- Assumes nothing.
+use mathlib.Core.Path.{ap₂}
+use mathlib.Core.List.{[], _∷_}
+use Prim.Native.Nat.{ℕ, _*_}
+use lib.Bits.{bitOr}
+use Rattle.labels.proofs.SetLaws.{member-lt}
+use Rattle.labels.proofs.MatrixLaws.{times-fits}
+use borrow.Author.Needs.{needs}
+use Rattle.matrix.proofs.crossed_word.Statement.{statement}
+use Rattle.matrix.proofs.crossed_word.Tie as tie
+
+bit-of-requires : tie.Need-bit-of-requires
+bit-of-requires c κs = search needs
+
+mul-result : tie.Need-mul-result
+mul-result c = record { fits = rw (c .bit-of .ensures) (times-fits _ (c .before .args .b) (member-lt (c .before .args .a ∷ []) (c .before .args .i)) (c .before .fits .b .fits)) }
+
+bit-of-requires-2 : tie.Need-bit-of-requires-2
+bit-of-requires-2 c κs = search needs
+
+mul-result-2 : tie.Need-mul-result-2
+mul-result-2 c = record { fits = rw (c .bit-of2 .ensures) (times-fits _ (c .before .before .args .a) (member-lt (c .before .before .args .b ∷ []) (c .before .before .args .i)) (c .before .before .fits .a .fits)) }
+
+returns : tie.Need-returns
+returns c =
+    let s = c .before .before .args in
+    ap₂ (λ (p q : ℕ). bitOr (s .x) (bitOr (p * s .b) (q * s .a))) (c .before .bit-of .ensures) (c .bit-of2 .ensures)
+
+pub crossed-word-spec : {M : Type 1} → statement M
+crossed-word-spec =
+    tie.close (tie.spec bit-of-requires mul-result bit-of-requires-2 mul-result-2 returns)

@@ -1,0 +1,19 @@
+-- `pairs_from` meets its contract: the shifted mask is the ones from bit i on.
+-- Assumes nothing.
+use mathlib.Core.Path.{ap}
+use Prim.Native.Nat.{ℕ}
+use lib.Bits.{bitAnd}
+use lib.Count.{ones}
+use Rattle.labels.proofs.OneWord.{shifted-mask}
+use borrow.Author.Needs.{needs}
+use Rattle.matrix.proofs.pairs_from.Statement.{statement}
+use Rattle.matrix.proofs.pairs_from.Tie as tie
+
+shl-result : tie.Need-shl-result
+shl-result c = search needs
+
+returns : tie.Need-returns
+returns c = ap (λ (k : ℕ). ones (bitAnd (c .args .x) k)) (shifted-mask (c .args .i) (c .pre))
+
+pub pairs-from-spec : {M : Type 1} → statement M
+pairs-from-spec = tie.close (tie.spec shl-result returns)
