@@ -1,8 +1,6 @@
 // A row's summary, worked out from its child rows, whose numbers are smaller. Pairs are marked in a lent matrix.
 ghost use mathlib.Core.Path.{_≡_};
 ghost use Prim.Native.Nat.{_<_, _*_};
-ghost use lib.ListN.{length};
-ghost use Rattle.labels.specs.Matrix.{matrixWords};
 ghost use Rattle.numbers.specs.Ceilings.{procCeiling};
 ghost use Rattle.recipe.specs.Statements.{statementAt};
 ghost use Rattle.analysis.specs.Summaries.{wordsOf};

@@ -15,12 +15,11 @@ use Rattle.calculus.specs.Syntax.{body}
 use Rattle.calculus.specs.Enabled.{MayMeet}
 use Rattle.calculus.specs.Rules.{Summary, Least}
 use Rattle.calculus.specs.Calls.{NoSelfCall}
-use Rattle.recipe.specs.Rules.{admitted}
+use Rattle.recipe.specs.Rules.{admitted, judgedWith}
 use Rattle.recipe.specs.Statements.{programOf}
 use Rattle.recipe.specs.Tables.{Table, tableOf}
 use Rattle.recipe.specs.declared.Judged.{Judged}
 use Rattle.recipe.specs.declared.Judged.the-variants.{Admitted, Refused}
-use Rattle.recipe.specs.Rules.{judgedWith}
 use Rattle.analysis.specs.Replies.{rounds, mainPairs, analysedAs, matrixAs, analysed, matrixAfter}
 use Rattle.analysis.specs.declared.Analysed.the-variants as reply
 use Rattle.analysis.proofs.analyse.Reads.{Post as analyse-post}

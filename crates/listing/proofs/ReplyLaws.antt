@@ -11,7 +11,7 @@ use lib.ListN.{length, drop, drop-of-length-le}
 use Rattle.labels.specs.Matrix.{matrixWords}
 use Rattle.calculus.specs.Syntax.{Program}
 use Rattle.recipe.specs.Tables.{Table}
-use Rattle.recipe.specs.Rules.{admitted}
+use Rattle.recipe.specs.Rules.{admitted, judgedWith}
 use Rattle.recipe.specs.Statements.{programOf}
 use Rattle.numbers.specs.declared.Refusal.{Refusal}
 use Rattle.numbers.specs.declared.Refusal.the-variants.{LongListing}
@@ -20,7 +20,6 @@ use Rattle.recipe.proofs.Judging.{sizes-test}
 use Rattle.recipe.proofs.Admitted.{admitted-kept}
 use Rattle.word.specs.Reached.{wide}
 use Rattle.analysis.specs.Replies.{rounds, mainPairs, analysed, matrixAfter}
-use Rattle.recipe.specs.Rules.{judgedWith}
 use Rattle.word.specs.Replies.{worded}
 use Rattle.analysis.specs.declared.Analysed.the-variants as analysis
 use Rattle.word.specs.declared.Worded.{Worded}

@@ -16,7 +16,7 @@ use Rattle.labels.specs.Matrix.{partners, pairsAtOrAbove}
 use Rattle.text.specs.Numbers.{spelled}
 use Rattle.text.proofs.SpelledLaws.{spelled-alone, spelled-short, spelled-four}
 use Rattle.recipe.specs.Tables.{Table}
-use Rattle.recipe.specs.Rules.{admitted}
+use Rattle.recipe.specs.Rules.{admitted, judgedWith}
 use Rattle.recipe.specs.Statements.{programOf}
 use Rattle.numbers.specs.declared.Refusal.{Refusal}
 use Rattle.numbers.specs.declared.Refusal.the-variants.{LongListing}
@@ -28,7 +28,6 @@ use Rattle.recipe.proofs.Admitted.{sizes-right}
 use Rattle.analysis.specs.Rounds.{settled}
 use Rattle.word.specs.Reached.{wide}
 use Rattle.analysis.specs.Replies.{rounds, mainPairs, matrixAfter}
-use Rattle.recipe.specs.Rules.{judgedWith}
 use Rattle.recipe.proofs.WithMatrix.{admitted-with}
 use Rattle.listing.specs.Pairs.{Pair, pairAt, pairsOf, pairs}
 use Rattle.listing.specs.Listing.{opening, pairLine, lines, listing}

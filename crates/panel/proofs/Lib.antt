@@ -1,3 +1,4 @@
 pub mod CodeLaws
 pub mod HandedOn
+pub mod ReadBack
 pub mod Unique

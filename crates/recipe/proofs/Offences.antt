@@ -13,7 +13,7 @@ use Rattle.recipe.specs.Offences.{First, Nowhere, Refuses}
 use Rattle.recipe.specs.Rules.{lowest, sizesRight, refusedAt, judged}
 use Rattle.recipe.specs.Tables.{Table, rows, procs}
 use Rattle.recipe.specs.declared.Judged.{Judged}
-use Rattle.recipe.specs.declared.Judged.the-variants.{Admitted, Refused}
+use Rattle.recipe.specs.declared.Judged.the-variants.{Refused}
 use Rattle.recipe.proofs.Judging.{refused-at, passed-on, sizes-refused, sizes-passed}
 use Rattle.recipe.proofs.Lowest.{lowest-is, lowest-passes, lowest-none, none-below, none-at-all}
 

@@ -3,13 +3,9 @@
 use mathlib.Core.Path.{_≡_, sym, _∙_}
 use Rattle.recipe.proofs.judge_with.Reads.{Post as judge-with-post}
 use Rattle.recipe.proofs.judge.Reads.{Post as judge-post}
-use Rattle.recipe.proofs.sizes_right.Reads.{Post as sizes-right-post}
 
 pub judge-determined : (κs a r r' s s' : _) → judge-post κs a r s → judge-post κs a r' s' → r ≡ r'
 judge-determined κs a r r' s s' p q = p ∙ sym q
-
-pub sizes-right-determined : (κs a r r' s s' : _) → sizes-right-post κs a r s → sizes-right-post κs a r' s' → r ≡ r'
-sizes-right-determined κs a r r' s s' p q = p ∙ sym q
 
 pub judge-with-determined : (κs a r r' s s' : _) → judge-with-post κs a r s → judge-with-post κs a r' s' → r ≡ r'
 judge-with-determined κs a r r' s s' p q = p ∙ sym q

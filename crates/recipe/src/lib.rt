@@ -25,7 +25,7 @@ pub enum Judged {
 }
 
 // Whether there are from 1 to the ceiling rows and procedures, and both operands to each row.
-pub fn sizes_right(rows: usize, xs: usize, ys: usize, procs: usize) -> bool
+fn sizes_right(rows: usize, xs: usize, ys: usize, procs: usize) -> bool
     ensures { λ r. ⌜ r ≡ sizesRight rows xs ys procs ⌝ }
 {
     if rows < 1 {

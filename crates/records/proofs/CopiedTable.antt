@@ -10,7 +10,7 @@ use Rattle.numbers.specs.Ceilings.{rowCeiling}
 use Rattle.recipe.specs.Records.{tableOfRows}
 use Rattle.recipe.specs.Tables.{tableOf}
 use Rattle.recipe.specs.declared.Row.{Row}
-use Rattle.records.specs.Records.{Copies}
+use Rattle.records.specs.Copying.{Copies}
 use Rattle.records.specs.declared.Columns.{Columns}
 use Rattle.records.proofs.Agreement.{same-table}
 

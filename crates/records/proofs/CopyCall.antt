@@ -25,7 +25,7 @@ use denote.Triple.Spec.{tripleOf}
 use denote.Triple.Statement.{Contract, Triple}
 use Rattle.recipe.specs.declared.Row.{Row}
 use Rattle.memory.proofs.RowMemory.{R}
-use Rattle.records.specs.Records.{Copies}
+use Rattle.records.specs.Copying.{Copies}
 use Rattle.records.specs.declared.Columns.{Columns}
 use Rattle.records.proofs.Columns as Cl
 use Rattle.records.proofs.copy_in as copy-in

@@ -8,13 +8,12 @@ use native.Mathlib.Omega.{arith}
 use lib.ListN.{length, length-map}
 use Rattle.numbers.specs.Ceilings.{rowCeiling}
 use Rattle.recipe.specs.Records.{tableOfRows}
-use Rattle.recipe.specs.Rules.{sizesRight}
+use Rattle.recipe.specs.Rules.{sizesRight, judgedWith}
 use Rattle.recipe.specs.Tables.{Table, rows, procs}
 use Rattle.recipe.specs.declared.Judged.the-variants.{Refused}
 use Rattle.numbers.specs.declared.Refusal.the-variants.{Sizes}
 use Rattle.recipe.specs.declared.Row.{Row}
 use Rattle.recipe.proofs.Judging.{sized}
-use Rattle.recipe.specs.Rules.{judgedWith}
 use Rattle.analysis.specs.declared.Analysed.the-variants as analysis
 use Rattle.recipe.proofs.WithMatrix.{wrong-sizes}
 use Rattle.analysis.proofs.ReplyLaws.{refused-reply}

@@ -1,16 +1,14 @@
--- What is replied to a recipe of row records, and copies of rows.
+-- What is replied to a recipe of row records.
 use mathlib.Core.Path.{_≡_}
 use mathlib.Core.List.{List}
-use Prim.Native.Nat.{ℕ, _≤_}
-use lib.ListN.{length, take}
-use Rattle.numbers.specs.Ceilings.{rowCeiling}
-use Rattle.recipe.specs.Records.{kindsOf, xsOf, ysOf, tableOfRows}
+use Prim.Native.Nat.{ℕ}
+use lib.ListN.{length}
+use Rattle.recipe.specs.Records.{tableOfRows}
 use Rattle.recipe.specs.declared.Row.{Row}
 use Rattle.analysis.specs.Replies.{analysed, matrixAfter}
 use Rattle.analysis.specs.declared.Analysed.{Analysed}
 use Rattle.listing.specs.Replies.{listed, matrixListed, bytesListed}
 use Rattle.listing.specs.declared.Listed.{Listed}
-use Rattle.records.specs.declared.Columns.{Columns}
 
 -- The reply r to these rows, these roots and the matrix m, and the matrix m' after it.
 abbrev pub Answers : List Row → List ℕ → List ℕ → Analysed → List ℕ → Type 0
@@ -23,9 +21,3 @@ Lists rows roots m b r m' b' =
     (r ≡ listed (tableOfRows rows roots) (length m) (length b))
     × (m' ≡ matrixListed (tableOfRows rows roots) m (length b))
     × (b' ≡ bytesListed (tableOfRows rows roots) (length m) b)
-
--- The columns begin with the fields of the rows, where a table can have that many.
-abbrev pub Copies : Columns → List Row → Type 0
-Copies c rows =
-    length rows ≤ rowCeiling
-    → (take (length rows) (c .kinds) ≡ kindsOf rows) × (take (length rows) (c .xs) ≡ xsOf rows) × (take (length rows) (c .ys) ≡ ysOf rows)

@@ -3,8 +3,7 @@
 use mathlib.Core.Path.{_≡_, refl}
 use mathlib.Core.List.{[], _∷_}
 use Rattle.recipe.specs.declared.Row.{Row}
-use Rattle.sheet_records.specs.Records.{rowsAt}
-use Rattle.sheet_records.specs.Stored.{overlaid}
+use Rattle.sheet_records.specs.Stored.{rowsAt, overlaid}
 
 abbrev step : Row
 step = record { kind = 1; x = 7; y = 0 }

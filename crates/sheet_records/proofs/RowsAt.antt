@@ -10,7 +10,7 @@ use lib.Seq.{take-suc, take-suc-set, take-length}
 use Rattle.recipe.specs.Records.{kindsOf, xsOf, ysOf}
 use Rattle.recipe.specs.declared.Row.{Row}
 use Rattle.memory.proofs.RowMemory.{blank}
-use Rattle.sheet_records.specs.Records.{rowAt, rowsAt}
+use Rattle.sheet_records.specs.Stored.{rowAt, rowsAt}
 
 -- A turn that stores the row at place i.
 pub row-put :

@@ -15,8 +15,8 @@ use Rattle.sheet.specs.Reading.{Reading, table, refused, readRows, readSheet, r
 use Rattle.sheet.specs.Steps.{rowCount}
 use Rattle.sheet.specs.declared.Read.{Read}
 use Rattle.sheet.proofs.Within.{sheet-within}
-use Rattle.sheet_records.specs.Records.{readRecords, Reads, Takes, rowsAt}
-use Rattle.sheet_records.specs.Stored.{overlaid}
+use Rattle.sheet_records.specs.Records.{readRecords, Reads}
+use Rattle.sheet_records.specs.Stored.{Takes, rowsAt, overlaid}
 use Rattle.sheet_records.specs.declared.Taken.{Taken}
 use Rattle.sheet_records.proofs.Overlaid.{overlaid-fits}
 use Rattle.sheet_records.proofs.RowsAt.{all-rows}

@@ -1,14 +1,14 @@
 // Which procedures reach which by calls: a set of procedures is one word, procedure f at bit f.
 ghost use mathlib.Core.Path.{_≡_};
-ghost use Prim.Native.Nat.{ℕ, _<_, _≤_, _*_};
+ghost use Prim.Native.Nat.{_<_, _≤_, _*_};
 ghost use lib.Bits.{bitOr};
 ghost use lib.ListN.{length, getD};
-ghost use Rattle.labels.specs.Words.{bit, oneIf, changed};
+ghost use Rattle.labels.specs.Words.{bit, changed};
 ghost use Rattle.numbers.specs.Ceilings.{procCeiling};
 ghost use Rattle.recipe.specs.Rules.{admitted};
 ghost use Rattle.recipe.specs.Statements.{statementAt, programOf};
 ghost use Rattle.recipe.specs.Tables.{tableOf};
-ghost use Rattle.word.specs.Reached.{calling, reached, someReaches, wide};
+ghost use Rattle.word.specs.Reached.{calling, wide};
 ghost use Rattle.recipe.specs.Alone.{rowsAlone, OfAdmitted};
 ghost use Rattle.word.specs.Storage.{BitsAre, Reaching};
 use numbers::ProcNumber;

@@ -2,9 +2,8 @@
 -- Assumes nothing.
 use mathlib.Core.Path.{refl}
 use Prim.Native.Nat.{_-_}
-use Rattle.labels.specs.Matrix.{matrixWords}
+use Rattle.labels.specs.Matrix.{matrixWords, cleared}
 use Rattle.labels.proofs.InPlace.{Changing, begins, goes-on, ends}
-use Rattle.labels.specs.Matrix.{cleared}
 use borrow.Author.Needs.{needs}
 use native.Mathlib.Omega.{arith}
 use Rattle.matrix.proofs.clear.Statement.{statement}

@@ -42,7 +42,8 @@ use Rattle.recipe.specs.declared.Row.{Row}
 use Rattle.analysis.specs.declared.Analysed.{Analysed}
 use Rattle.analysis.proofs.Analysed as S
 use Rattle.analysis.proofs.Analysed.Laws as S′
-use Rattle.records.specs.Records.{Answers, Copies}
+use Rattle.records.specs.Records.{Answers}
+use Rattle.records.specs.Copying.{Copies}
 use Rattle.records.specs.declared.Columns.{Columns}
 use Rattle.records.proofs.Columns as Cl
 use Rattle.records.proofs.Columns.Laws as Cl′

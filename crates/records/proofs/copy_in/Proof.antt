@@ -26,7 +26,7 @@ use types.Kit.{Given, Item, Sq, runs, ‵, raw, _⊛_, some, later, ⋆, anyQ, a
 use types.Part.{whole, sub, look-in, agg}
 use types.Run.{look, look-raw, store, init, forget, stop, hop, fld, from, load, lit, of-opd, bin, addr, and-then, no-more, assigns, assigns-last, land, stays, leaves-loop, returns, enter, alloc1, alloc0, params1, pass1, pass0, free1, free0, exec}
 use types.Share.{arr-parts}
-use denote.RattleType.{owns}
+use denote.RattleType.{owns, RattleType}
 use denote.Laws.{Is, shows}
 use denote.Plain.{uint-vals, uint-tells, uint-makes, uint-lawful}
 use denote.Builtin.{u8, u16, usize}
@@ -37,7 +37,6 @@ use denote.Index.{place-is, place-byte, row, elem-out, elem-back, elem-put, look
 use denote.Signature.{plain}
 use denote.Slice.{sliceTy, sliceVal, ShrSlice, Room, heres, codedHoleys, at-slice, slice-vals, shr-slice-tells}
 use denote.Steps.{only, owned, facts, heard, nothing}
-use denote.RattleType.{RattleType}
 use denote.Struct.Laws as LL
 use denote.Triple.Call.{calls-at}
 use denote.Triple.Clauses.{ensured, lasts}
@@ -51,16 +50,15 @@ use Rattle.numbers.specs.Ceilings.{rowCeiling}
 use Rattle.recipe.specs.declared.Row.{Row}
 use Rattle.recipe.proofs.Row as T
 use Rattle.recipe.proofs.Row.Laws as T′
-use Rattle.records.specs.Records.{Copies}
+use Rattle.records.specs.Copying.{Copies}
 use Rattle.records.specs.declared.Columns.{Columns}
-use Rattle.memory.proofs.RowMemory.{blank}
+use Rattle.memory.proofs.RowMemory.{blank, R, rowTy, vals, tells, copies, row-typed}
 use Rattle.records.proofs.StoredColumns.{column, length-column, column-all}
 use Rattle.records.proofs.Columns as Cl
 use Rattle.records.proofs.Columns.Laws as Cl′
 use Rattle.memory.proofs.CountedLoop.{counted-loop}
 use Rattle.memory.proofs.LocalArray as local-array
 use Rattle.memory.proofs.LocalArray.{arrayTy, zeros, zeroed, length-zeros, zeros-are, repeats-zero}
-use Rattle.memory.proofs.RowMemory.{R, rowTy, vals, tells, copies, row-typed}
 use Rattle.records.proofs.rows_taken as taken
 use Rattle.records.proofs.rows_taken.Symbol as taken-def
 use Rattle.records.proofs.rows_taken.Symbol.{name as #records·rows-taken}

@@ -42,7 +42,8 @@ use Rattle.recipe.specs.declared.Row.{Row}
 use Rattle.listing.specs.declared.Listed.{Listed}
 use Rattle.listing.proofs.Listed as S
 use Rattle.listing.proofs.Listed.Laws as S′
-use Rattle.records.specs.Records.{Lists, Copies}
+use Rattle.records.specs.Records.{Lists}
+use Rattle.records.specs.Copying.{Copies}
 use Rattle.records.specs.declared.Columns.{Columns}
 use Rattle.records.proofs.Columns as Cl
 use Rattle.records.proofs.Columns.Laws as Cl′

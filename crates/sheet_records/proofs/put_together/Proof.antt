@@ -5,7 +5,7 @@ use Prim.Native.Nat.{ℕ, _-_, _≤_}
 use native.Mathlib.Omega.{arith}
 use lib.ListN.{length, take, length-set}
 use denote.Ref.{now}
-use Rattle.sheet_records.specs.Records.{rowsAt}
+use Rattle.sheet_records.specs.Stored.{rowsAt}
 use Rattle.sheet_records.proofs.RowsAt.{row-put}
 use borrow.Author.Needs.{needs}
 use Rattle.sheet_records.proofs.put_together.Statement.{statement}

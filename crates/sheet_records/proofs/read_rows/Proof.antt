@@ -45,8 +45,8 @@ use Rattle.sheet.proofs.Read as S
 use Rattle.sheet.proofs.Read.Laws as S′
 use Rattle.memory.proofs.LocalArray as local-array
 use Rattle.memory.proofs.RowMemory.{R, Rows, vals, tells, lawful}
-use Rattle.sheet_records.specs.Records.{readRecords, Reads, Takes}
-use Rattle.sheet_records.specs.Stored.{overlaid}
+use Rattle.sheet_records.specs.Records.{readRecords, Reads}
+use Rattle.sheet_records.specs.Stored.{Takes, overlaid}
 use Rattle.sheet_records.specs.declared.Taken.{Taken}
 use Rattle.sheet_records.proofs.Taking.{stored-is-read}
 use Rattle.sheet_records.proofs.Taken as T
