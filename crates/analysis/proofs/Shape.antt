@@ -49,7 +49,8 @@ shaped-called w B (loop s) b =
     let x = shaped-called w B s b in
     record { O = x .O; L = x .L; M = sized-crossed (x .O) (x .L) (x .M) }
 shaped-called w B (async s) b = let x = shaped-called w B s b in record { O = x .L; L = x .L; M = x .M }
-shaped-called w B (finish s) b = let x = shaped-called w B s b in record { O = sized-none w; L = x .L; M = x .M }
+shaped-called w B (finish s) b =
+    let x = shaped-called w B s b in record { O = sized-none w; L = x .L; M = search (x .M, sized-none) }
 shaped-called w B (call f) b = b f refl
 
 pub shaped : (w : ℕ) (B : ℕ → WordSummary) → ((f : ℕ) → Shaped w (B f)) → (s : Stmt) → Shaped w (wordsOf w B s)
