@@ -6,7 +6,8 @@ use native.Mathlib.Nat.{zero-mul, one-mul, zero-div, zero-mod, div-one, mod-lt, 
 use native.Mathlib.Omega.{arith}
 use lib.Dec.{eqb, eqb·zero-suc, eqb·suc-zero, eqb·suc-suc, lit<}
 use lib.Bits.{bitOr, bitAnd, or-shr, or-step, and-shr, and-step}
-use Rattle.labels.specs.Words.{bit, oneIf}
+use Rattle.labels.specs.Words.{bit}
+use Rattle.numbers.specs.General.{oneIf}
 
 pub bit-lt : (x i : ℕ) → bit x i < 2
 unfolding bit

@@ -7,7 +7,8 @@ use native.Mathlib.Nat.{zero-min, min-zero, suc-min-suc, not-suc-le-zero, le-of-
 use lib.Dec.{lit<}
 use lib.ListN.{length, getD, set, take, drop}
 use lib.Seq.{getD-drop}
-use Rattle.labels.specs.Words.{changed, Words, wordBits}
+use Rattle.labels.specs.Words.{changed, Words}
+use Rattle.numbers.specs.Sizes.{wordBits}
 
 pub length-changed : (n : ℕ) (f : ℕ → ℕ → ℕ) (s : List ℕ) → length (changed n f s) ≡ length s
 unfolding changed

@@ -13,8 +13,10 @@ use lib.ListN.{length, getD, set, length-replicate, List·getD-eq-default}
 use lib.Pow.{pow-lt}
 use lib.Seq.{ext-getD, getD-set-same, getD-set-other}
 use borrow.Author.Tests.{eq-eqb, ne-eqb}
-use Rattle.labels.specs.Words.{wordBits, bit, oneIf, Words}
-use Rattle.labels.specs.Sets.{ceiling, member, none, single, joined, union}
+use Rattle.numbers.specs.Sizes.{wordBits, labelCeiling}
+use Rattle.labels.specs.Words.{bit, Words}
+use Rattle.numbers.specs.General.{oneIf}
+use Rattle.labels.specs.Sets.{member, none, single, joined, union}
 use Rattle.labels.proofs.BitLaws.{bit-lt, bit-of-zero, bit-or, bit-of-power, bits-make-the-word}
 use Rattle.labels.proofs.ChangedLaws.{length-changed, changed-below, words-changed}
 
@@ -37,7 +39,7 @@ unfolding member
 member-none w l = ap (λ (x : ℕ). bit x (l % wordBits)) (getD-none w (l / wordBits)) ∙ bit-of-zero (l % wordBits)
 
 -- no label stands past the last word
-pub member-beyond : (s : List ℕ) (l : ℕ) → ceiling (length s) ≤ l → member s l ≡ 0
+pub member-beyond : (s : List ℕ) (l : ℕ) → labelCeiling (length s) ≤ l → member s l ≡ 0
 unfolding member
 member-beyond s l h =
     ap (λ (x : ℕ). bit x (l % wordBits)) (List·getD-eq-default s 0 {n = l / wordBits} (omega arith)) ∙ bit-of-zero (l % wordBits)
@@ -50,11 +52,11 @@ member-joined n a b l h k =
     ∙ bit-or (getD a (l / wordBits) 0) (getD b (l / wordBits) 0) (l % wordBits)
 
 pub member-union :
-    (w : ℕ) (a b : List ℕ) (l : ℕ) → length a ≡ w → l < ceiling w → member (union w a b) l ≡ max (member a l) (member b l)
+    (w : ℕ) (a b : List ℕ) (l : ℕ) → length a ≡ w → l < labelCeiling w → member (union w a b) l ≡ max (member a l) (member b l)
 member-union w a b l e h = member-joined w a b l (omega arith) (omega arith)
 
 pub union-monotone :
-    (w : ℕ) (a b a' b' : List ℕ) (l : ℕ) → length a ≡ w → length a' ≡ w → l < ceiling w
+    (w : ℕ) (a b a' b' : List ℕ) (l : ℕ) → length a ≡ w → length a' ≡ w → l < labelCeiling w
     → member a l ≤ member a' l → member b l ≤ member b' l → member (union w a b) l ≤ member (union w a' b') l
 union-monotone w a b a' b' l e e' h p q =
     let lower = member-union w a b l e h in
@@ -88,7 +90,7 @@ unfolding single
 words-single w l =
     words-set (none w) (l / wordBits) (2 ^ (l % wordBits)) (pow-lt (mod-lt l (lit< tt))) (words-none w)
 
-same-word : (w l k : ℕ) → l < ceiling w → k / wordBits ≡ l / wordBits → member (single w l) k ≡ oneIf (eqb (l % wordBits) (k % wordBits))
+same-word : (w l k : ℕ) → l < labelCeiling w → k / wordBits ≡ l / wordBits → member (single w l) k ≡ oneIf (eqb (l % wordBits) (k % wordBits))
 unfolding member single
 same-word w l k h e =
     ap (λ (x : ℕ). bit x (k % wordBits))
@@ -103,7 +105,7 @@ other-word w l k d =
     (getD-set-other (none w) (l / wordBits) (k / wordBits) (2 ^ (l % wordBits)) 0 d ∙ getD-none w (k / wordBits))
     ∙ bit-of-zero (k % wordBits)
 
-pub member-single : (w l k : ℕ) → l < ceiling w → member (single w l) k ≡ oneIf (eqb l k)
+pub member-single : (w l k : ℕ) → l < labelCeiling w → member (single w l) k ≡ oneIf (eqb l k)
 member-single w l k h = by-label (ℕ-discrete l k)
   where
     by-word : l ≢ k → Dec (k / wordBits ≡ l / wordBits) → member (single w l) k ≡ 0
@@ -118,7 +120,7 @@ member-single w l k h = by-label (ℕ-discrete l k)
     by-label (no d) = by-word d (ℕ-discrete (k / wordBits) (l / wordBits)) ∙ sym (ap oneIf (ne-eqb l k d))
 
 -- a label that no set of w words holds is alone in the empty set
-pub single-beyond : (w l : ℕ) → ceiling w ≤ l → single w l ≡ none w
+pub single-beyond : (w l : ℕ) → labelCeiling w ≤ l → single w l ≡ none w
 unfolding single
 single-beyond w l h =
     lib.Seq.set-out (none w) (l / wordBits) (2 ^ (l % wordBits))
@@ -126,7 +128,7 @@ single-beyond w l h =
 
 -- two sets of the same number of words with the same members are equal
 pub members-make-the-set :
-    (a b : List ℕ) → length a ≡ length b → Words a → Words b → ((l : ℕ) → l < ceiling (length a) → member a l ≡ member b l) → a ≡ b
+    (a b : List ℕ) → length a ≡ length b → Words a → Words b → ((l : ℕ) → l < labelCeiling (length a) → member a l ≡ member b l) → a ≡ b
 members-make-the-set a b e wa wb same =
     ext-getD 0 a b e
     (λ k h. bits-make-the-word wordBits (getD a k 0) (getD b k 0) (wa k) (wb k)

@@ -1,13 +1,10 @@
--- A set of labels is a list of w words, label l at bit l mod 64 of word l / 64. The code has w = 1.
+-- A set of labels is a list of w words, label l at bit l mod 64 of word l / 64. The code has those of our size.
 use mathlib.Core.List.{List}
-use Prim.Native.Nat.{ℕ, _*_, _/_, _%_, _^_}
+use Prim.Native.Nat.{ℕ, _/_, _%_, _^_}
 use lib.Bits.{bitOr}
 use lib.ListN.{getD, set, replicate}
-use Rattle.labels.specs.Words.{wordBits, bit, changed}
-
--- The labels that a set of w words can hold are those below this number.
-abbrev pub ceiling : ℕ → ℕ
-ceiling w = wordBits * w
+use Rattle.numbers.specs.Sizes.{wordBits}
+use Rattle.labels.specs.Words.{bit, changed}
 
 -- 1 if label l is in the set, else 0.
 unfoldable pub member : List ℕ → ℕ → ℕ

@@ -2,6 +2,7 @@
 ghost use mathlib.Core.Path.{_≡_};
 ghost use mathlib.Core.List.{_∷_, []};
 ghost use lib.Dec.{eqb};
+ghost use Rattle.numbers.specs.Sizes.{ours};
 ghost use Rattle.labels.specs.Sets.{member, single, union};
 
 // A step's label. It is no procedure number and no row number.
@@ -13,7 +14,7 @@ impl Label {
 
     // The set of this label alone, and the empty set where the label is not below the ceiling.
     pub fn alone(self) -> u64
-        ensures { λ r. ⌜ r ∷ [] ≡ single 1 (self .0) ⌝ }
+        ensures { λ r. ⌜ r ∷ [] ≡ single (ours .words) (self .0) ⌝ }
     {
         let l = self.0;
         if (l as usize) < Label::CEILING {
@@ -38,7 +39,7 @@ impl Label {
 
 // The labels of either set.
 pub fn join(a: u64, b: u64) -> u64
-    ensures { λ r. ⌜ r ∷ [] ≡ union 1 (a ∷ []) (b ∷ []) ⌝ }
+    ensures { λ r. ⌜ r ∷ [] ≡ union (ours .words) (a ∷ []) (b ∷ []) ⌝ }
 {
     a | b
 }

@@ -1,1 +1,5 @@
+pub mod MatrixLaws
+pub mod CountLaws
+pub mod OneWord
 pub mod Unique
+mod BothSizes

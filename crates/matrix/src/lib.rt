@@ -6,19 +6,21 @@ ghost use Prim.Native.Nat.{_-_, _*_, _^_, _<_, min};
 ghost use lib.Bits.{bitOr, bitAnd};
 ghost use lib.Count.{ones};
 ghost use lib.ListN.{getD};
-ghost use Rattle.labels.specs.Words.{wordBits, alike};
-ghost use Rattle.labels.specs.Sets.{ceiling, member};
-ghost use Rattle.labels.specs.Matrix.{matrixWords, cleared, merged, crossed, pairsAtOrAbove};
+ghost use Rattle.numbers.specs.Sizes.{ours, wordBits, labelCeiling, matrixWords};
+ghost use Rattle.labels.specs.Words.{alike};
+ghost use Rattle.labels.specs.Sets.{member};
+ghost use Rattle.matrix.specs.Matrix.{cleared, merged, copied, crossed, pairsAtOrAbove};
 use labels::Label;
+use numbers::MATRIX_WORDS;
 
 // How many words of a matrix a slice of this length holds.
 fn held(len: usize) -> usize
-    ensures { λ r. ⌜ r ≡ min (matrixWords 1) len ⌝ }
+    ensures { λ r. ⌜ r ≡ min (matrixWords (ours .words)) len ⌝ }
 {
-    if len < Label::CEILING {
+    if len < MATRIX_WORDS {
         len
     } else {
-        Label::CEILING
+        MATRIX_WORDS
     }
 }
 
@@ -29,37 +31,37 @@ fn word_at(s: &[u64], i: usize) -> u64
     if i < s.len() { s[i] } else { 0 }
 }
 
-// Whether label i is in the set, as a number.
-fn bit_of(set: u64, i: usize) -> u64
-    requires { ⌜ i < ceiling 1 ⌝ }
-    ensures { λ r. ⌜ r ≡ member (set ∷ []) i ⌝ }
+// Whether the label is in the set, as a number.
+fn bit_of(set: u64, label: Label) -> u64
+    requires { ⌜ label .0 < labelCeiling (ours .words) ⌝ }
+    ensures { λ r. ⌜ r ≡ member (set ∷ []) (label .0) ⌝ }
 {
-    (set >> i) % 2
+    (set >> label.0) % 2
 }
 
-// One word of a crossing: label i's partners are joined by b where i is in a, and by a where i is in b.
-fn crossed_word(x: u64, i: usize, a: u64, b: u64) -> u64
-    requires { ⌜ i < ceiling 1 ⌝ }
-    ensures { λ r. ⌜ r ≡ bitOr x (bitOr (member (a ∷ []) i * b) (member (b ∷ []) i * a)) ⌝ }
+// One word of a crossing: the label's partners are joined by b where it is in a, and by a where it is in b.
+fn crossed_word(x: u64, label: Label, a: u64, b: u64) -> u64
+    requires { ⌜ label .0 < labelCeiling (ours .words) ⌝ }
+    ensures { λ r. ⌜ r ≡ bitOr x (bitOr (member (a ∷ []) (label .0) * b) (member (b ∷ []) (label .0) * a)) ⌝ }
 {
-    x | (bit_of(a, i) * b | bit_of(b, i) * a)
+    x | (bit_of(a, label) * b | bit_of(b, label) * a)
 }
 
 // Marks every (x,y) and every (y,x) with x in a and y in b.
 pub fn cross(matrix: &mut [u64], a: u64, b: u64)
-    ensures { λ _. ⌜ now (matrix .exit) ≡ crossed 1 (a ∷ []) (b ∷ []) (now (matrix .entry)) ⌝ }
+    ensures { λ _. ⌜ now (matrix .exit) ≡ crossed (ours .words) (a ∷ []) (b ∷ []) (now (matrix .entry)) ⌝ }
 {
     let n = held(matrix.len());
     let mut i = 0;
     while i < n {
-        matrix[i] = crossed_word(matrix[i], i, a, b);
+        matrix[i] = crossed_word(matrix[i], Label(i as u8), a, b);
         i += 1;
     }
 }
 
 // Marks every pair that is marked in the other matrix.
 pub fn merge(matrix: &mut [u64], other: &[u64])
-    ensures { λ _. ⌜ now (matrix .exit) ≡ merged 1 (now (matrix .entry)) (now (other .entry)) ⌝ }
+    ensures { λ _. ⌜ now (matrix .exit) ≡ merged (ours .words) (now (matrix .entry)) (now (other .entry)) ⌝ }
 {
     let n = held(matrix.len());
     let mut i = 0;
@@ -71,7 +73,7 @@ pub fn merge(matrix: &mut [u64], other: &[u64])
 
 // Marks no pair any more.
 pub fn clear(matrix: &mut [u64])
-    ensures { λ _. ⌜ now (matrix .exit) ≡ cleared 1 (now (matrix .entry)) ⌝ }
+    ensures { λ _. ⌜ now (matrix .exit) ≡ cleared (ours .words) (now (matrix .entry)) ⌝ }
 {
     let n = held(matrix.len());
     let mut i = 0;
@@ -81,11 +83,23 @@ pub fn clear(matrix: &mut [u64])
     }
 }
 
+// Marks the pairs of the other matrix and no others.
+pub fn copy(matrix: &mut [u64], other: &[u64])
+    ensures { λ _. ⌜ now (matrix .exit) ≡ copied (ours .words) (now (matrix .entry)) (now (other .entry)) ⌝ }
+{
+    let n = held(matrix.len());
+    let mut i = 0;
+    while i < n {
+        matrix[i] = word_at(other, i);
+        i += 1;
+    }
+}
+
 // Whether two matrices mark the same pairs.
 pub fn same(a: &[u64], b: &[u64]) -> bool
-    ensures { λ r. ⌜ r ≡ alike (matrixWords 1) (now (a .entry)) (now (b .entry)) ⌝ }
+    ensures { λ r. ⌜ r ≡ alike (matrixWords (ours .words)) (now (a .entry)) (now (b .entry)) ⌝ }
 {
-    let mut i = Label::CEILING;
+    let mut i = MATRIX_WORDS;
     while 0 < i {
         i -= 1;
         if word_at(a, i) != word_at(b, i) {
@@ -95,22 +109,22 @@ pub fn same(a: &[u64], b: &[u64]) -> bool
     true
 }
 
-// How many pairs (i,j) with j not below i the word of label i marks.
-fn pairs_from(x: u64, i: usize) -> u32
-    requires { ⌜ i < ceiling 1 ⌝ }
-    ensures { λ r. ⌜ r ≡ ones (bitAnd x (2 ^ wordBits - 2 ^ i)) ⌝ }
+// How many pairs of the label with itself and those above it its word marks.
+fn pairs_from(x: u64, label: Label) -> u32
+    requires { ⌜ label .0 < labelCeiling (ours .words) ⌝ }
+    ensures { λ r. ⌜ r ≡ ones (bitAnd x (2 ^ wordBits - 2 ^ (label .0))) ⌝ }
 {
-    u64::count_ones(x & (0xffff_ffff_ffff_ffff << i))
+    u64::count_ones(x & (0xffff_ffff_ffff_ffff << label.0))
 }
 
 // The number of marked pairs (i,j) with i not above j.
 pub fn count(matrix: &[u64]) -> u32
-    ensures { λ r. ⌜ r ≡ pairsAtOrAbove 1 (now (matrix .entry)) ⌝ }
+    ensures { λ r. ⌜ r ≡ pairsAtOrAbove (ours .words) (now (matrix .entry)) ⌝ }
 {
     let mut sum: u32 = 0;
     let mut i = 0;
     while i < Label::CEILING {
-        sum += pairs_from(word_at(matrix, i), i);
+        sum += pairs_from(word_at(matrix, i), Label(i as u8));
         i += 1;
     }
     sum

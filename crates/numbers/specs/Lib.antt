@@ -1,2 +1,3 @@
-pub mod Ceilings
+pub mod Sizes
+pub mod General
 pub mod Refusals

@@ -1,4 +1,4 @@
-// Numbers of rows, procedures and lines, kept apart, with their ceilings, and the numbered refusals.
+// The lowest room: row, procedure and line numbers kept apart, the ceilings by size, the numbered refusals, and definitions of general use.
 ghost use mathlib.Core.Path.{_≡_};
 ghost use Rattle.numbers.specs.Refusals.{refusalNumber, refusalPlace};
 
@@ -28,6 +28,9 @@ impl SheetSize {
     // A sheet has at most this many bytes.
     pub const CEILING: usize = 65536;
 }
+
+// A matrix of label pairs has this many words.
+pub const MATRIX_WORDS: usize = 64;
 
 // Every reply that refuses, with the place that it names.
 pub enum Refusal {

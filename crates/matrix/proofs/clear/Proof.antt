@@ -2,7 +2,8 @@
 -- Assumes nothing.
 use mathlib.Core.Path.{refl}
 use Prim.Native.Nat.{_-_}
-use Rattle.labels.specs.Matrix.{matrixWords, cleared}
+use Rattle.numbers.specs.Sizes.{ours, matrixWords}
+use Rattle.matrix.specs.Matrix.{cleared}
 use Rattle.labels.proofs.InPlace.{Changing, begins, goes-on, ends}
 use borrow.Author.Needs.{needs}
 use native.Mathlib.Omega.{arith}
@@ -10,7 +11,7 @@ use Rattle.matrix.proofs.clear.Statement.{statement}
 use Rattle.matrix.proofs.clear.Tie as tie
 
 abbrev Inv-loop : tie.InvT-loop
-Inv-loop matrix₀ n i₀ matrix i = Changing (matrixWords 1) (λ k x. 0) matrix₀ n matrix i
+Inv-loop matrix₀ n i₀ matrix i = Changing (matrixWords (ours .words)) (λ k x. 0) matrix₀ n matrix i
 
 abbrev μ-loop : tie.MeasureT-loop
 μ-loop matrix₀ n i₀ matrix i = n - i

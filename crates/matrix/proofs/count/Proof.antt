@@ -9,11 +9,12 @@ use lib.Bits.{bitAnd, and-lt}
 use lib.Count.{ones, ones-le}
 use lib.ListN.{getD}
 use lib.Pow.{pow-pos}
-use Rattle.labels.specs.Words.{wordBits, Words, sumBelow}
-use Rattle.labels.specs.Sets.{ceiling}
-use Rattle.labels.proofs.CountLaws.{highMask}
-use Rattle.labels.proofs.SumLaws.{sum-bounded}
-use Rattle.labels.proofs.OneWord.{pairs-one}
+use Rattle.numbers.specs.Sizes.{ours, wordBits, labelCeiling}
+use Rattle.labels.specs.Words.{Words}
+use Rattle.numbers.specs.General.{sumBelow}
+use Rattle.matrix.proofs.CountLaws.{highMask}
+use Rattle.numbers.proofs.SumLaws.{sum-bounded}
+use Rattle.matrix.proofs.OneWord.{pairs-one}
 use borrow.Author.Needs.{needs}
 use native.Mathlib.Omega.{arith}
 use Rattle.matrix.proofs.count.Statement.{statement}
@@ -23,18 +24,18 @@ use Rattle.matrix.proofs.count.Tie as tie
 pairsBelow : List ℕ → ℕ → ℕ
 pairsBelow m i = sumBelow i (λ k. ones (bitAnd (getD m k 0) (highMask k)))
 
-row-few : (m : List ℕ) → Words m → (k : ℕ) → k < ceiling 1 → ones (bitAnd (getD m k 0) (highMask k)) ≤ wordBits
+row-few : (m : List ℕ) → Words m → (k : ℕ) → k < labelCeiling (ours .words) → ones (bitAnd (getD m k 0) (highMask k)) ≤ wordBits
 row-few m wm k h = ones-le wordBits _ (and-lt wordBits (getD m k 0) (highMask k) (wm k) (omega (arith, pow-pos k)))
 
-pairs-few : (m : List ℕ) → Words m → (i : ℕ) → i ≤ ceiling 1 → pairsBelow m i ≤ i * wordBits
+pairs-few : (m : List ℕ) → Words m → (i : ℕ) → i ≤ labelCeiling (ours .words) → pairsBelow m i ≤ i * wordBits
 unfolding pairsBelow
 pairs-few m wm i h = sum-bounded i wordBits _ (λ k l. row-few m wm k (omega arith))
 
 abbrev Inv-loop : tie.InvT-loop
-Inv-loop matrix sum₀ i₀ sum i = (i ≤ ceiling 1) × (sum ≡ pairsBelow matrix i)
+Inv-loop matrix sum₀ i₀ sum i = (i ≤ labelCeiling (ours .words)) × (sum ≡ pairsBelow matrix i)
 
 abbrev μ-loop : tie.MeasureT-loop
-μ-loop matrix sum₀ i₀ sum i = ceiling 1 - i
+μ-loop matrix sum₀ i₀ sum i = labelCeiling (ours .words) - i
 
 loop-holds : tie.Need-loop-holds Inv-loop μ-loop
 unfolding pairsBelow sumBelow
@@ -44,6 +45,9 @@ loop-holds c =
 word-at-requires : tie.Need-word-at-requires Inv-loop μ-loop
 word-at-requires c κs = search needs
 
+cast-t7 : tie.Need-cast-t7 Inv-loop μ-loop
+cast-t7 c = omega arith
+
 pairs-from-requires : tie.Need-pairs-from-requires Inv-loop μ-loop
 pairs-from-requires c κs = omega arith
 
@@ -52,7 +56,7 @@ add-sum c =
     let l = c .before .before .before .loop in
     let m = c .before .before .before .before .before .args .matrix .now in
     let wm : Words m = λ k. c .before .before .before .before .shared-slice-known .given k .fits in
-    let h : l .i < ceiling 1 = c .before .before .loop-test .taken in
+    let h : l .i < labelCeiling (ours .words) = c .before .before .loop-test .taken in
     let counted : c .pairs-from .result ≡ ones (bitAnd (getD m (l .i) 0) (highMask (l .i))) = c .pairs-from .ensures ∙ ap (λ (x : ℕ). ones (bitAnd x (highMask (l .i)))) (c .before .word-at .ensures) in
     omega (arith, pairs-few m wm (l .i) (l .inv .0), row-few m wm (l .i) h)
 
@@ -74,7 +78,7 @@ returns : tie.Need-returns Inv-loop μ-loop
 unfolding pairsBelow
 returns c =
     let l = c .before .loop in
-    let done : l .i ≡ ceiling 1 = omega arith in
+    let done : l .i ≡ labelCeiling (ours .words) = omega arith in
     let m = c .before .before .before .args .matrix in
     l .inv .1 ∙ ap (pairsBelow (now m)) done ∙ sym (pairs-one (now m) (λ k. c .before .before .shared-slice-known .given k .fits))
 
@@ -86,6 +90,7 @@ count-spec =
     μ-loop
     loop-holds
     word-at-requires
+    cast-t7
     pairs-from-requires
     add-sum
     add-i

@@ -3,16 +3,16 @@
 use mathlib.Core.Path.{sym, _∙_}
 use Prim.Native.Nat.{_-_}
 use denote.Ref.{now}
-use Rattle.labels.specs.Matrix.{matrixWords}
+use Rattle.numbers.specs.Sizes.{ours, matrixWords}
 use Rattle.labels.proofs.InPlace.{Changing, begins, goes-on, ends}
-use Rattle.labels.proofs.OneWord.{crossedWord, crossed-one}
+use Rattle.matrix.proofs.OneWord.{crossedWord, crossed-one}
 use borrow.Author.Needs.{needs}
 use native.Mathlib.Omega.{arith}
 use Rattle.matrix.proofs.cross.Statement.{statement}
 use Rattle.matrix.proofs.cross.Tie as tie
 
 abbrev Inv-loop : tie.InvT-loop
-Inv-loop matrix₀ a b n i₀ matrix i = Changing (matrixWords 1) (crossedWord a b) matrix₀ n matrix i
+Inv-loop matrix₀ a b n i₀ matrix i = Changing (matrixWords (ours .words)) (crossedWord a b) matrix₀ n matrix i
 
 abbrev μ-loop : tie.MeasureT-loop
 μ-loop matrix₀ a b n i₀ matrix i = n - i
@@ -28,6 +28,9 @@ mul-crossed-word c = omega arith
 
 slice-read-crossed-word : tie.Need-slice-read-crossed-word Inv-loop μ-loop
 slice-read-crossed-word c = omega arith
+
+cast-t12 : tie.Need-cast-t12 Inv-loop μ-loop
+cast-t12 c = omega arith
 
 crossed-word-requires : tie.Need-crossed-word-requires Inv-loop μ-loop
 crossed-word-requires c κs = omega arith
@@ -67,6 +70,7 @@ cross-spec =
     loop-holds
     mul-crossed-word
     slice-read-crossed-word
+    cast-t12
     crossed-word-requires
     mul-matrix
     slice-write-matrix

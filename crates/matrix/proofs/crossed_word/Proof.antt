@@ -5,7 +5,7 @@ use mathlib.Core.List.{[], _∷_}
 use Prim.Native.Nat.{ℕ, _*_}
 use lib.Bits.{bitOr}
 use Rattle.labels.proofs.SetLaws.{member-lt}
-use Rattle.labels.proofs.MatrixLaws.{times-fits}
+use Rattle.matrix.proofs.MatrixLaws.{times-fits}
 use borrow.Author.Needs.{needs}
 use Rattle.matrix.proofs.crossed_word.Statement.{statement}
 use Rattle.matrix.proofs.crossed_word.Tie as tie
@@ -14,13 +14,13 @@ bit-of-requires : tie.Need-bit-of-requires
 bit-of-requires c κs = search needs
 
 mul-result : tie.Need-mul-result
-mul-result c = record { fits = rw (c .bit-of .ensures) (times-fits _ (c .before .args .b) (member-lt (c .before .args .a ∷ []) (c .before .args .i)) (c .before .fits .b .fits)) }
+mul-result c = record { fits = rw (c .bit-of .ensures) (times-fits _ (c .before .args .b) (member-lt (c .before .args .a ∷ []) (c .before .args .label .0)) (c .before .fits .b .fits)) }
 
 bit-of-requires-2 : tie.Need-bit-of-requires-2
 bit-of-requires-2 c κs = search needs
 
 mul-result-2 : tie.Need-mul-result-2
-mul-result-2 c = record { fits = rw (c .bit-of2 .ensures) (times-fits _ (c .before .before .args .a) (member-lt (c .before .before .args .b ∷ []) (c .before .before .args .i)) (c .before .before .fits .a .fits)) }
+mul-result-2 c = record { fits = rw (c .bit-of2 .ensures) (times-fits _ (c .before .before .args .a) (member-lt (c .before .before .args .b ∷ []) (c .before .before .args .label .0)) (c .before .before .fits .a .fits)) }
 
 returns : tie.Need-returns
 returns c =

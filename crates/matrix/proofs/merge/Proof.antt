@@ -3,7 +3,7 @@
 use mathlib.Core.Path.{ap}
 use Prim.Native.Nat.{_-_}
 use lib.ListN.{getD}
-use Rattle.labels.specs.Matrix.{matrixWords}
+use Rattle.numbers.specs.Sizes.{ours, matrixWords}
 use Rattle.labels.proofs.InPlace.{Changing, begins, goes-on, ends}
 use lib.Bits.{bitOr}
 use Rattle.labels.specs.Sets.{joined}
@@ -13,7 +13,7 @@ use Rattle.matrix.proofs.merge.Statement.{statement}
 use Rattle.matrix.proofs.merge.Tie as tie
 
 abbrev Inv-loop : tie.InvT-loop
-Inv-loop matrix₀ other n i₀ matrix i = Changing (matrixWords 1) (λ k x. bitOr x (getD other k 0)) matrix₀ n matrix i
+Inv-loop matrix₀ other n i₀ matrix i = Changing (matrixWords (ours .words)) (λ k x. bitOr x (getD other k 0)) matrix₀ n matrix i
 
 abbrev μ-loop : tie.MeasureT-loop
 μ-loop matrix₀ other n i₀ matrix i = n - i

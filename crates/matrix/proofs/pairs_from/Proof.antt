@@ -4,16 +4,19 @@ use mathlib.Core.Path.{ap}
 use Prim.Native.Nat.{ℕ}
 use lib.Bits.{bitAnd}
 use lib.Count.{ones}
-use Rattle.labels.proofs.OneWord.{shifted-mask}
+use Rattle.matrix.proofs.OneWord.{shifted-mask}
 use borrow.Author.Needs.{needs}
 use Rattle.matrix.proofs.pairs_from.Statement.{statement}
 use Rattle.matrix.proofs.pairs_from.Tie as tie
+
+cast-result : tie.Need-cast-result
+cast-result c = search needs
 
 shl-result : tie.Need-shl-result
 shl-result c = search needs
 
 returns : tie.Need-returns
-returns c = ap (λ (k : ℕ). ones (bitAnd (c .args .x) k)) (shifted-mask (c .args .i) (c .pre))
+returns c = ap (λ (k : ℕ). ones (bitAnd (c .before .args .x) k)) (shifted-mask (c .before .args .label .0) (c .before .pre))
 
 pub pairs-from-spec : {M : Type 1} → statement M
-pairs-from-spec = tie.close (tie.spec shl-result returns)
+pairs-from-spec = tie.close (tie.spec cast-result shl-result returns)

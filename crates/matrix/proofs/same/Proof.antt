@@ -4,7 +4,7 @@ use mathlib.Core.Path.{_≡_, refl, sym, ap, _∙_}
 use Prim.Native.Nat.{ℕ, _≤_}
 use denote.Ref.{now}
 use Rattle.labels.specs.Words.{alike}
-use Rattle.labels.specs.Matrix.{matrixWords}
+use Rattle.numbers.specs.Sizes.{ours, matrixWords}
 use Rattle.labels.proofs.AlikeLaws.{alike-down, differs-down, alike-none}
 use borrow.Author.Needs.{needs}
 use native.Mathlib.Omega.{arith}
@@ -12,7 +12,7 @@ use Rattle.matrix.proofs.same.Statement.{statement}
 use Rattle.matrix.proofs.same.Tie as tie
 
 abbrev Inv-loop : tie.InvT-loop
-Inv-loop a b i₀ i = (i ≤ matrixWords 1) × (alike (matrixWords 1) a b ≡ alike i a b)
+Inv-loop a b i₀ i = (i ≤ matrixWords (ours .words)) × (alike (matrixWords (ours .words)) a b ≡ alike i a b)
 
 abbrev μ-loop : tie.MeasureT-loop
 μ-loop a b i₀ i = i
@@ -32,7 +32,7 @@ word-at-requires-2 c κs = omega arith
 returns : tie.Need-returns Inv-loop μ-loop
 returns c =
     let l = c .before .before .before .before .loop in
-    sym (l .inv .1 ∙ differs-down (l .i) _ _ (c .before .before .before .loop-test .taken)
+    sym (l .inv .1 ∙ differs-down _ _ (l .i) (c .before .before .before .loop-test .taken)
     (λ e. c .if1 .taken (c .before .before .word-at .ensures ∙ e ∙ sym (c .before .word-at2 .ensures))))
 
 loop-less : tie.Need-loop-less Inv-loop μ-loop
@@ -42,7 +42,7 @@ loop-again : tie.Need-loop-again Inv-loop μ-loop
 loop-again c =
     let l = c .before .before .before .before .loop in (
       omega arith,
-      l .inv .1 ∙ alike-down (l .i) _ _ (c .before .before .before .loop-test .taken)
+      l .inv .1 ∙ alike-down _ _ (l .i) (c .before .before .before .loop-test .taken)
           (sym (c .before .before .word-at .ensures) ∙ c .if1 .left ∙ c .before .word-at2 .ensures),
     )
 

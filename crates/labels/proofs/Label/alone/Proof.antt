@@ -7,7 +7,7 @@ use native.Mathlib.Nat.{one-mul}
 use lib.Dec.{lit<}
 use lib.Pow.{shl-exact}
 use Rattle.labels.proofs.SetLaws.{single-beyond}
-use Rattle.labels.specs.Words.{wordBits}
+use Rattle.numbers.specs.Sizes.{ours, wordBits}
 use Rattle.labels.proofs.OneWord.{single-one}
 use borrow.Author.Needs.{needs}
 use native.Mathlib.Omega.{arith}
@@ -29,7 +29,7 @@ returns c =
     ap (λ (x : ℕ). x ∷ []) (shl-exact 1 l wordBits (lit< tt) (omega arith) ∙ one-mul _) ∙ sym (single-one l (c .if1 .taken))
 
 returns-2 : tie.Need-returns-2
-returns-2 c = sym (single-beyond 1 (c .before .args .self .0) (c .if1 .left))
+returns-2 c = sym (single-beyond (ours .words) (c .before .args .self .0) (c .if1 .left))
 
 pub alone-spec : {M : Type 1} → statement M
 alone-spec = tie.close (tie.spec cast-if1 cast-result shl-result returns returns-2)

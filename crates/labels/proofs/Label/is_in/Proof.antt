@@ -7,7 +7,7 @@ use native.Mathlib.Nat.{one-mul}
 use lib.Bits.{bitAnd}
 use lib.Dec.{eqb, lit<}
 use lib.Pow.{shl-exact}
-use Rattle.labels.specs.Words.{wordBits}
+use Rattle.numbers.specs.Sizes.{wordBits}
 use Rattle.labels.proofs.OneWord.{member-one, member-one-beyond, masked-test}
 use borrow.Author.Needs.{needs}
 use native.Mathlib.Omega.{arith}

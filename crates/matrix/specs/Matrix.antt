@@ -4,12 +4,10 @@ use Prim.Native.Nat.{ℕ, _*_, _/_, _%_}
 use lib.Bits.{bitOr}
 use lib.Dec.{leb}
 use lib.ListN.{getD, take, drop}
-use Rattle.labels.specs.Words.{changed, oneIf, sumBelow}
-use Rattle.labels.specs.Sets.{ceiling, member, joined}
-
--- The words of a whole matrix.
-abbrev pub matrixWords : ℕ → ℕ
-matrixWords w = ceiling w * w
+use Rattle.numbers.specs.General.{oneIf, sumBelow}
+use Rattle.numbers.specs.Sizes.{labelCeiling, matrixWords}
+use Rattle.labels.specs.Words.{changed}
+use Rattle.labels.specs.Sets.{member, joined}
 
 -- The set of label i's partners.
 abbrev pub partners : ℕ → List ℕ → ℕ → List ℕ
@@ -27,6 +25,10 @@ cleared w m = changed (matrixWords w) (λ k x. 0) m
 abbrev pub merged : ℕ → List ℕ → List ℕ → List ℕ
 merged w m n = joined (matrixWords w) m n
 
+-- The pairs of the other matrix in the place of those marked before; words beyond the matrix stay.
+unfoldable pub copied : ℕ → List ℕ → List ℕ → List ℕ
+copied w m n = changed (matrixWords w) (λ k x. getD n k 0) m
+
 -- Every (a,b) and every (b,a) marked besides: word k belongs to label k / w, and takes b's word if that label is in a, a's if it is in b.
 unfoldable pub crossed : ℕ → List ℕ → List ℕ → List ℕ → List ℕ
 crossed w a b m =
@@ -37,4 +39,4 @@ crossed w a b m =
 -- The number of marked pairs (i,j) with i not above j.
 unfoldable pub pairsAtOrAbove : ℕ → List ℕ → ℕ
 pairsAtOrAbove w m =
-    sumBelow (ceiling w) (λ i. sumBelow (ceiling w) (λ j. oneIf (leb i j) * marked w m i j))
+    sumBelow (labelCeiling w) (λ i. sumBelow (labelCeiling w) (λ j. oneIf (leb i j) * marked w m i j))

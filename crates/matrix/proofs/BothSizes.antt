@@ -4,9 +4,9 @@ use mathlib.Core.Path.{_≡_}
 use mathlib.Core.List.{List}
 use Prim.Native.Nat.{ℕ, _≤_, _<_, min, max}
 use lib.ListN.{length}
 use Rattle.labels.specs.Sets.{member}
-use Rattle.labels.specs.Matrix.{marked, crossed}
-use Rattle.labels.proofs.MatrixLaws.{marked-crossed}
+use Rattle.matrix.specs.Matrix.{marked, crossed}
+use Rattle.matrix.proofs.MatrixLaws.{marked-crossed}
 
 -- 64 labels, a matrix of 64 words
 one-word :

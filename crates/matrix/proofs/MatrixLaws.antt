@@ -11,19 +11,21 @@ use lib.Bits.{bitOr, or-lt, or-zero-l}
 use lib.Dec.{lit<}
 use lib.ListN.{length, getD, take, drop, length-take, drop-of-length-le}
 use lib.Seq.{ext-getD, getD-take, getD-drop, take-nil}
-use Rattle.labels.specs.Words.{wordBits, bit, Words, changed}
-use Rattle.labels.specs.Sets.{ceiling, member, none, joined}
-use Rattle.labels.specs.Matrix.{matrixWords, partners, marked, cleared, merged, crossed}
+use Rattle.numbers.specs.General.{laid}
+use Rattle.numbers.specs.Sizes.{wordBits, labelCeiling, matrixWords}
+use Rattle.labels.specs.Words.{bit, Words, changed}
+use Rattle.labels.specs.Sets.{member, none, joined}
+use Rattle.matrix.specs.Matrix.{partners, marked, cleared, merged, copied, crossed}
 use Rattle.labels.proofs.BitLaws.{bit-or, bit-times, bit-of-zero, bits-make-the-word}
 use Rattle.labels.proofs.ChangedLaws.{length-changed, changed-below, words-changed}
 use Rattle.labels.proofs.SetLaws.{member-lt, member-beyond, getD-none}
 
 pub marked-lt : (w : ℕ) (m : List ℕ) (i j : ℕ) → marked w m i j < 2
 unfolding marked
 marked-lt w m i j = member-lt (partners w m i) j
 
 -- where the pair (i,j) stands
-pub marked-at : (w : ℕ) (m : List ℕ) (i j : ℕ) → j < ceiling w → marked w m i j ≡ bit (getD m (i * w + j / wordBits) 0) (j % wordBits)
+pub marked-at : (w : ℕ) (m : List ℕ) (i j : ℕ) → j < labelCeiling w → marked w m i j ≡ bit (getD m (i * w + j / wordBits) 0) (j % wordBits)
 unfolding marked member
 marked-at w m i j h =
     ap (λ (x : ℕ). bit x (j % wordBits))
@@ -31,23 +33,23 @@ marked-at w m i j h =
 
 -- no pair stands past the last label, on either side
 pub marked-beyond-label :
-    (w : ℕ) (m : List ℕ) (i j : ℕ) → length m ≤ matrixWords w → ceiling w ≤ i → marked w m i j ≡ 0
+    (w : ℕ) (m : List ℕ) (i j : ℕ) → length m ≤ matrixWords w → labelCeiling w ≤ i → marked w m i j ≡ 0
 unfolding marked
 marked-beyond-label w m i j size h =
     ap (λ (s : List ℕ). member (take w s) j) (drop-of-length-le m {i = i * w} (le-trans size (mul-le-mul-right w h)))
     ∙ ap (λ (s : List ℕ). member s j) (take-nil w)
     ∙ member-beyond [] j zero-le
 
-pub marked-beyond-partner : (w : ℕ) (m : List ℕ) (i j : ℕ) → ceiling w ≤ j → marked w m i j ≡ 0
+pub marked-beyond-partner : (w : ℕ) (m : List ℕ) (i j : ℕ) → labelCeiling w ≤ j → marked w m i j ≡ 0
 unfolding marked
 marked-beyond-partner w m i j h =
     member-beyond (partners w m i) j (omega (arith, length-take w (drop (i * w) m)))
 
 -- nothing is marked in a matrix of zeros
 pub marked-none : (w i j : ℕ) → marked w (none (matrixWords w)) i j ≡ 0
-marked-none w i j = go (decLt j (ceiling w))
+marked-none w i j = go (decLt j (labelCeiling w))
   where
-    go : Dec (j < ceiling w) → marked w (none (matrixWords w)) i j ≡ 0
+    go : Dec (j < labelCeiling w) → marked w (none (matrixWords w)) i j ≡ 0
     go (yes h) =
         marked-at w (none (matrixWords w)) i j h
         ∙ ap (λ (x : ℕ). bit x (j % wordBits)) (getD-none (matrixWords w) (i * w + j / wordBits))
@@ -58,7 +60,7 @@ member-word : (s : List ℕ) (l : ℕ) → member s l ≡ bit (getD s (l / wordB
 unfolding member
 member-word s l = refl
 
-place-below : (w i q : ℕ) → i < ceiling w → q < w → i * w + q < matrixWords w
+place-below : (w i q : ℕ) → i < labelCeiling w → q < w → i * w + q < matrixWords w
 place-below w i q h l = omega (arith, mul-le-mul-right w h, suc-mul i w)
 
 place-label : (w i q : ℕ) → q < w → (i * w + q) / w ≡ i
@@ -70,19 +72,19 @@ place-word w i q l = mul-add-mod-self-right i w q ∙ mod-eq-of-lt l
 
 module _ (w : ℕ) (m : List ℕ) (whole : matrixWords w ≤ length m) where
   marked-changed :
-      (f : ℕ → ℕ → ℕ) (i j : ℕ) → i < ceiling w → j < ceiling w
+      (f : ℕ → ℕ → ℕ) (i j : ℕ) → i < labelCeiling w → j < labelCeiling w
       → marked w (changed (matrixWords w) f m) i j ≡ bit (f (i * w + j / wordBits) (getD m (i * w + j / wordBits) 0)) (j % wordBits)
   marked-changed f i j hi hj =
       let place : i * w + j / wordBits < matrixWords w = place-below w i (j / wordBits) hi (omega arith) in
       marked-at w (changed (matrixWords w) f m) i j hj
       ∙ ap (λ (x : ℕ). bit x (j % wordBits)) (changed-below (matrixWords w) f m (i * w + j / wordBits) place (lt-of-lt-of-le place whole))
 
-  pub marked-cleared : (i j : ℕ) → i < ceiling w → j < ceiling w → marked w (cleared w m) i j ≡ 0
+  pub marked-cleared : (i j : ℕ) → i < labelCeiling w → j < labelCeiling w → marked w (cleared w m) i j ≡ 0
   unfolding cleared
   marked-cleared i j hi hj = marked-changed (λ k x. 0) i j hi hj ∙ bit-of-zero (j % wordBits)
 
   pub marked-merged :
-      (n : List ℕ) (i j : ℕ) → i < ceiling w → j < ceiling w → marked w (merged w m n) i j ≡ max (marked w m i j) (marked w n i j)
+      (n : List ℕ) (i j : ℕ) → i < labelCeiling w → j < labelCeiling w → marked w (merged w m n) i j ≡ max (marked w m i j) (marked w n i j)
   unfolding joined
   marked-merged n i j hi hj =
       marked-changed (λ k x. bitOr x (getD n k 0)) i j hi hj
@@ -91,7 +93,7 @@ module _ (w : ℕ) (m : List ℕ) (whole : matrixWords w ≤ length m) where
 
   -- a pair is marked after the crossing if it was before, or joins a label of a with one of b, either way round
   pub marked-crossed :
-      (a b : List ℕ) (i j : ℕ) → i < ceiling w → j < ceiling w
+      (a b : List ℕ) (i j : ℕ) → i < labelCeiling w → j < labelCeiling w
       → marked w (crossed w a b m) i j ≡ max (marked w m i j) (max (min (member a i) (member b j)) (min (member b i) (member a j)))
   unfolding crossed
   marked-crossed a b i j hi hj =
@@ -109,7 +111,7 @@ module _ (w : ℕ) (m : List ℕ) (whole : matrixWords w ≤ length m) where
       (bit-or (member a (k / w) * getD b (k % w) 0) (member b (k / w) * getD a (k % w) 0) r ∙ ap₂ max (one a b) (one b a))
 
   pub crossed-symmetric :
-      (a b : List ℕ) (i j : ℕ) → i < ceiling w → j < ceiling w
+      (a b : List ℕ) (i j : ℕ) → i < labelCeiling w → j < labelCeiling w
       → marked w m i j ≡ marked w m j i → marked w (crossed w a b m) i j ≡ marked w (crossed w a b m) j i
   crossed-symmetric a b i j hi hj e =
       marked-crossed a b i j hi hj
@@ -126,7 +128,7 @@ min-monotone p q = omega arith
 
 -- the more stands in the sets and in the matrix, the more is marked after the crossing
 pub crossed-monotone :
-    (w : ℕ) (m m' a a' b b' : List ℕ) → matrixWords w ≤ length m → matrixWords w ≤ length m' → (i j : ℕ) → i < ceiling w → j < ceiling w
+    (w : ℕ) (m m' a a' b b' : List ℕ) → matrixWords w ≤ length m → matrixWords w ≤ length m' → (i j : ℕ) → i < labelCeiling w → j < labelCeiling w
     → marked w m i j ≤ marked w m' i j → ((l : ℕ) → member a l ≤ member a' l) → ((l : ℕ) → member b l ≤ member b' l)
     → marked w (crossed w a b m) i j ≤ marked w (crossed w a' b' m') i j
 crossed-monotone w m m' a a' b b' whole whole' i j hi hj p q r =
@@ -165,7 +167,7 @@ words-crossed w a b m wa wb =
 pub marks-make-the-matrix :
     (w : ℕ) (m n : List ℕ) → length m ≡ length n → Words m → Words n
     → ((k : ℕ) → matrixWords w ≤ k → getD m k 0 ≡ getD n k 0)
-    → ((i j : ℕ) → i < ceiling w → j < ceiling w → marked w m i j ≡ marked w n i j) → m ≡ n
+    → ((i j : ℕ) → i < labelCeiling w → j < labelCeiling w → marked w m i j ≡ marked w n i j) → m ≡ n
 marks-make-the-matrix w m n e wm wn beyond same =
     ext-getD 0 m n e (λ k h. either k (decLt k (matrixWords w)))
   where
@@ -175,12 +177,12 @@ marks-make-the-matrix w m n e wm wn beyond same =
         (λ b l. at m b l ∙ same (k / w) (k % w * wordBits + b) label (partner b l) ∙ sym (at n b l))
       where
         some : zero < w
-        some = ⊎-elim (λ z. absurd (not-suc-le-zero (subst (λ (x : ℕ). k < x) (ap (λ (x : ℕ). ceiling w * x) z ∙ mul-zero (ceiling w)) h))) (λ p. p) (eq-zero-or-pos w)
+        some = ⊎-elim (λ z. absurd (not-suc-le-zero (subst (λ (x : ℕ). k < x) (ap (λ (x : ℕ). labelCeiling w * x) z ∙ mul-zero (labelCeiling w)) h))) (λ p. p) (eq-zero-or-pos w)
 
-        label : k / w < ceiling w
+        label : k / w < labelCeiling w
         label = div-lt-iff-lt-mul some .1 h
 
-        partner : (b : ℕ) → b < wordBits → k % w * wordBits + b < ceiling w
+        partner : (b : ℕ) → b < wordBits → k % w * wordBits + b < labelCeiling w
         partner b l = omega (arith, mod-lt k some)
 
         at : (s : List ℕ) (b : ℕ) → b < wordBits → bit (getD s k 0) b ≡ marked w s (k / w) (k % w * wordBits + b)
@@ -209,3 +211,20 @@ pub merged-cleared :
     (w : ℕ) (m x : List ℕ) → matrixWords w ≤ length m → length x ≡ matrixWords w → merged w (cleared w m) x ≡ x ++ drop (matrixWords w) m
 unfolding cleared
 merged-cleared w m x h e = joined-replaced (matrixWords w) m x h e
+
+-- a copy puts the other matrix in the place of this one; words beyond stay
+replaced : (n : ℕ) (f : ℕ → ℕ) (m x : List ℕ) → n ≤ length m → length x ≡ n → ((k : ℕ) → k < n → f k ≡ getD x k 0)
+    → changed n (λ k y. f k) m ≡ x ++ drop n m
+unfolding changed
+replaced zero f m [] h e same = refl
+replaced zero f m (z ∷ x) h e same = absurd (omega arith)
+replaced (suc n) f [] x h e same = absurd (omega arith)
+replaced (suc n) f (y ∷ m) [] h e same = absurd (omega arith)
+replaced (suc n) f (y ∷ m) (z ∷ x) h e same =
+    ap₂ (λ (v : ℕ) (t : List ℕ). v ∷ t) (same zero (omega arith))
+    (replaced n (λ k. f (suc k)) m x (le-of-suc-le-suc h) (omega arith) (λ k l. same (suc k) (omega arith)))
+
+pub copied-laid : (w : ℕ) (m x : List ℕ) → matrixWords w ≤ length m → length x ≡ matrixWords w → copied w m x ≡ laid x m
+unfolding copied
+copied-laid w m x h e =
+    replaced (matrixWords w) (λ k. getD x k 0) m x h e (λ k l. refl) ∙ ap (λ (n : ℕ). x ++ drop n m) (sym e)

@@ -1,15 +1,42 @@
--- What a sum says of its parts: each is at most the sum, two different ones are so together, and a sum above 0 has a part above 0.
+-- Sums term by term, split in two, bounded, and what a sum says of its parts: by recursion on the number of terms.
 -- Assumes nothing.
-use Prim.Native.Nat.{ℕ, zero, suc, _+_, _≤_, _<_}
-use mathlib.Core.Path.{_≡_, refl, sym, subst}
+use mathlib.Core.Bool.{Bool, true, false}
 use mathlib.Core.Logic.{⊎-elim}
-use native.Mathlib.Nat.{le-of-suc-le-suc, eq-or-lt-of-le}
+use mathlib.Core.Path.{_≡_, refl, sym, ap, ap₂, _∙_, subst}
+use Prim.Native.Nat.{ℕ, zero, suc, _+_, _*_, _≤_, _<_}
+use native.Mathlib.Nat.{add-zero, zero-add, add-suc, add-assoc, le-refl, le-of-suc-le-suc, eq-or-lt-of-le}
 use native.Mathlib.Numerals.{add-one}
 use native.Mathlib.Omega.{arith}
-use mathlib.Core.Bool.{Bool, true, false}
 use borrow.Author.Tests.{ltb-true, ltb-false}
 use lib.Dec.{ltb}
-use Rattle.labels.specs.Words.{sumBelow}
+use Rattle.numbers.specs.General.{sumBelow}
+
+pub sum-alike : (n : ℕ) (f g : ℕ → ℕ) → ((k : ℕ) → k < n → f k ≡ g k) → sumBelow n f ≡ sumBelow n g
+unfolding sumBelow
+sum-alike zero f g e = refl
+sum-alike (suc n) f g e = ap₂ _+_ (sum-alike n f g (λ k h. e k (omega arith))) (e n (le-refl (suc n)))
+
+pub sum-split : (m n : ℕ) (f : ℕ → ℕ) → sumBelow (m + n) f ≡ sumBelow m f + sumBelow n (λ k. f (m + k))
+unfolding sumBelow
+sum-split m zero f = ap (λ (k : ℕ). sumBelow k f) (add-zero m) ∙ sym (add-zero (sumBelow m f))
+sum-split m (suc n) f =
+    ap (λ (k : ℕ). sumBelow k f) (add-suc m n)
+    ∙ ap (λ (x : ℕ). x + f (m + n)) (sum-split m n f)
+    ∙ add-assoc (sumBelow m f) (sumBelow n (λ k. f (m + k))) (f (m + n))
+
+pub sum-bounded : (n b : ℕ) (f : ℕ → ℕ) → ((k : ℕ) → k < n → f k ≤ b) → sumBelow n f ≤ n * b
+unfolding sumBelow
+sum-bounded zero b f h = Prim.Native.Nat.zero-le
+sum-bounded (suc n) b f h =
+    let earlier : sumBelow n f ≤ n * b = sum-bounded n b f (λ k l. h k (omega arith)) in
+    let last : f n ≤ b = h n (le-refl (suc n)) in
+    omega (arith, native.Mathlib.Nat.suc-mul n b)
+
+pub sum-first : (n : ℕ) (f : ℕ → ℕ) → sumBelow (suc n) f ≡ f zero + sumBelow n (λ k. f (suc k))
+unfolding sumBelow
+sum-first zero f = zero-add (f zero) ∙ sym (add-zero (f zero))
+sum-first (suc n) f =
+    ap (λ (x : ℕ). x + f (suc n)) (sum-first n f) ∙ add-assoc (f zero) (sumBelow n (λ k. f (suc k))) (f (suc n))
 
 pub sum-next : (n : ℕ) (f : ℕ → ℕ) → sumBelow (n + 1) f ≡ sumBelow n f + f n
 unfolding sumBelow

@@ -6,7 +6,7 @@ use mathlib.Core.Bool.{Bool, true, false, cond}
 use native.Mathlib.Nat.{le-of-suc-le-suc}
 use native.Mathlib.Omega.{arith}
 use borrow.Author.Count.{below-more}
-use Rattle.recipe.specs.Rules.{lowest}
+use Rattle.numbers.specs.General.{lowest}
 
 -- It is the only place below which the test fails and at which, if it lies below n, the test passes.
 pub lowest-is : (n : ℕ) (test : ℕ → Bool) (i : ℕ) → i ≤ n → ((k : ℕ) → k < i → test k ≡ false) → (i < n → test i ≡ true) → i ≡ lowest n test

@@ -14,13 +14,16 @@ use lib.ListN.{getD, drop}
 use lib.Pow.{high-ones, pow-pos}
 use lib.Seq.{getD-take, getD-drop}
 use borrow.Author.Tests.{le-leb, lt-leb}
-use Rattle.labels.specs.Words.{wordBits, bit, oneIf, Words, sumBelow}
-use Rattle.labels.specs.Sets.{ceiling, member}
-use Rattle.labels.specs.Matrix.{partners, marked, pairsAtOrAbove}
+use Rattle.numbers.specs.Sizes.{wordBits, labelCeiling}
+use Rattle.labels.specs.Words.{bit, Words}
+use Rattle.numbers.specs.General.{oneIf, sumBelow}
+use Rattle.labels.specs.Sets.{member}
+use Rattle.matrix.specs.Matrix.{partners, marked, pairsAtOrAbove}
 use Rattle.labels.proofs.BitLaws.{bit-lt, bit-first, bit-next, bit-and}
 use Rattle.labels.proofs.ChangedLaws.{words-take, words-drop}
-use Rattle.labels.proofs.SumLaws.{sum-alike, sum-split, ones-are-bits}
+use Rattle.numbers.proofs.SumLaws.{sum-alike, sum-split}
+use Rattle.labels.proofs.OnesLaws.{ones-are-bits}
 use Rattle.labels.proofs.SetLaws.{member-at}
 
 odd-ones : (j : ℕ) → 2 ^ suc j - 1 ≡ (2 ^ j - 1) * 2 + 1
 odd-ones j = omega (arith, pow-suc 2 j, pow-pos j)
@@ -100,7 +103,7 @@ same-test i q b h = by-order (decLe i (wordBits * q + b))
 -- the members of a set from label i on, word by word
 pub members-from :
     (w : ℕ) (s : List ℕ) (i : ℕ) → Words s
-    → sumBelow (ceiling w) (λ j. oneIf (leb i j) * member s j) ≡ sumBelow w (λ q. ones (fromLabel i q (getD s q 0)))
+    → sumBelow (labelCeiling w) (λ j. oneIf (leb i j) * member s j) ≡ sumBelow w (λ q. ones (fromLabel i q (getD s q 0)))
 unfolding sumBelow
 members-from zero s i ws = refl
 members-from (suc w) s i ws =
@@ -124,10 +127,10 @@ members-from (suc w) s i ws =
 -- the count of the pairs at or above the diagonal, word by word
 pub pairs-by-words :
     (w : ℕ) (m : List ℕ) → Words m
-    → pairsAtOrAbove w m ≡ sumBelow (ceiling w) (λ i. sumBelow w (λ q. ones (fromLabel i q (getD m (i * w + q) 0))))
+    → pairsAtOrAbove w m ≡ sumBelow (labelCeiling w) (λ i. sumBelow w (λ q. ones (fromLabel i q (getD m (i * w + q) 0))))
 unfolding pairsAtOrAbove marked
 pairs-by-words w m wm =
-    sum-alike (ceiling w) _ _
+    sum-alike (labelCeiling w) _ _
     (λ i h. members-from w (partners w m i) i (words-take w (drop (i * w) m) (words-drop (i * w) m wm))
     ∙ sum-alike w _ _ (λ q l. ap (λ (x : ℕ). ones (fromLabel i q x)) (getD-partners i q l)))
   where

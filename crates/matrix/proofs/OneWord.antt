@@ -1,0 +1,55 @@
+-- A matrix of our size in the code's own terms: a set is one word, and a word's label is its own number.
+-- Assumes nothing.
+use mathlib.Core.Path.{_≡_, ap, ap₂, _∙_, subst}
+use mathlib.Core.List.{List, [], _∷_}
+use Prim.Native.Nat.{ℕ, suc, _+_, _-_, _*_, _/_, _%_, _^_, _≤_, _<_}
+use native.Mathlib.Nat.{div-one, mod-one, zero-add, mul-suc, mul-comm, le-of-lt}
+use native.Mathlib.Omega.{arith}
+use lib.Bits.{bitOr, bitAnd}
+use lib.Count.{ones}
+use lib.ListN.{getD}
+use lib.Pow.{low, pow-mono, pow-pos, suc-ones}
+use Rattle.numbers.specs.Sizes.{ours, wordBits, labelCeiling, matrixWords}
+use Rattle.labels.specs.Words.{Words, changed}
+use Rattle.numbers.specs.General.{sumBelow}
+use Rattle.labels.specs.Sets.{member}
+use Rattle.matrix.specs.Matrix.{crossed, pairsAtOrAbove}
+use Rattle.labels.proofs.ChangedLaws.{changed-alike}
+use Rattle.numbers.proofs.SumLaws.{sum-alike}
+use Rattle.matrix.proofs.CountLaws.{highMask, fromLabel, pairs-by-words}
+
+other-way-round : (p t : ℕ) → t ≤ p → p * suc t ≡ t * suc p + (suc p - suc t)
+other-way-round p t h = omega (arith, mul-suc p t, mul-suc t p, mul-comm p t)
+
+-- all ones shifted up by i are the ones from bit i on
+pub shifted-mask : (i : ℕ) → i < labelCeiling (ours .words) → (2 ^ wordBits - 1) * 2 ^ i % 2 ^ wordBits ≡ highMask i
+shifted-mask i h =
+    ap (λ (x : ℕ). x % 2 ^ wordBits) split ∙ low (2 ^ i - 1) wordBits (omega (arith, pow-pos i))
+  where
+    bound : 2 ^ i ≤ 2 ^ wordBits
+    bound = pow-mono (le-of-lt h)
+
+    split : (2 ^ wordBits - 1) * 2 ^ i ≡ (2 ^ i - 1) * 2 ^ wordBits + highMask i
+    split =
+        subst (λ (t : ℕ). (2 ^ wordBits - 1) * t ≡ (2 ^ i - 1) * 2 ^ wordBits + (2 ^ wordBits - t)) (suc-ones i)
+        (other-way-round (2 ^ wordBits - 1) (2 ^ i - 1) (omega (arith, bound)))
+
+-- what crossing does to word i
+abbrev pub crossedWord : ℕ → ℕ → ℕ → ℕ → ℕ
+crossedWord a b i x = bitOr x (bitOr (member (a ∷ []) i * b) (member (b ∷ []) i * a))
+
+pub crossed-one : (a b : ℕ) (m : List ℕ) → crossed (ours .words) (a ∷ []) (b ∷ []) m ≡ changed (matrixWords (ours .words)) (crossedWord a b) m
+unfolding crossed
+crossed-one a b m =
+    changed-alike (matrixWords (ours .words)) _ (crossedWord a b) m
+    (λ k h l. ap₂ (λ (q r : ℕ). bitOr (getD m k 0) (bitOr (member (a ∷ []) q * getD (b ∷ []) r 0) (member (b ∷ []) q * getD (a ∷ []) r 0))) (div-one k) (mod-one k))
+
+pub pairs-one : (m : List ℕ) → Words m → pairsAtOrAbove (ours .words) m ≡ sumBelow (labelCeiling (ours .words)) (λ i. ones (bitAnd (getD m i 0) (highMask i)))
+unfolding sumBelow
+pairs-one m wm =
+    pairs-by-words 1 m wm
+    ∙ sum-alike (labelCeiling (ours .words)) _ (λ i. ones (bitAnd (getD m i 0) (highMask i)))
+    (λ i h. zero-add (ones (fromLabel i 0 (getD m (i * 1 + 0) 0)))
+    ∙ ap₂ (λ (k n : ℕ). ones (bitAnd (getD m n 0) (highMask k)))
+    (omega arith)
+    (omega arith))

@@ -1,0 +1,65 @@
+-- `copy` meets its contract: the loop puts the other matrix's word in the place of each word that is there.
+-- Assumes nothing.
+use Prim.Native.Nat.{_-_}
+use lib.ListN.{getD}
+use Rattle.numbers.specs.Sizes.{ours, matrixWords}
+use Rattle.labels.proofs.InPlace.{Changing, begins, goes-on, ends}
+use Rattle.matrix.specs.Matrix.{copied}
+use borrow.Author.Needs.{needs}
+use native.Mathlib.Omega.{arith}
+use Rattle.matrix.proofs.copy.Statement.{statement}
+use Rattle.matrix.proofs.copy.Tie as tie
+
+abbrev Inv-loop : tie.InvT-loop
+Inv-loop matrix₀ other n i₀ matrix i = Changing (matrixWords (ours .words)) (λ k x. getD other k 0) matrix₀ n matrix i
+
+abbrev μ-loop : tie.MeasureT-loop
+μ-loop matrix₀ other n i₀ matrix i = n - i
+
+held-requires : tie.Need-held-requires Inv-loop μ-loop
+held-requires c κs = search needs
+
+loop-holds : tie.Need-loop-holds Inv-loop μ-loop
+loop-holds c = begins (c .held .ensures)
+
+word-at-requires : tie.Need-word-at-requires Inv-loop μ-loop
+word-at-requires c κs = omega arith
+
+mul-matrix : tie.Need-mul-matrix Inv-loop μ-loop
+mul-matrix c = omega arith
+
+slice-write-matrix : tie.Need-slice-write-matrix Inv-loop μ-loop
+slice-write-matrix c = omega arith
+
+add-i : tie.Need-add-i Inv-loop μ-loop
+add-i c = omega arith
+
+loop-less : tie.Need-loop-less Inv-loop μ-loop
+loop-less c = omega arith
+
+loop-again : tie.Need-loop-again Inv-loop μ-loop
+loop-again c = goes-on (c .before .before .loop .inv) (c .before .loop-test .taken) (c .word-at .ensures)
+
+same-length : tie.Need-same-length Inv-loop μ-loop
+same-length c = c .before .loop .inv .size
+
+returns : tie.Need-returns Inv-loop μ-loop
+unfolding copied
+returns c = ends (c .before .loop .inv) (c .loop-test .left)
+
+pub copy-spec : {M : Type 1} → statement M
+copy-spec =
+    tie.close
+    (tie.spec
+    Inv-loop
+    μ-loop
+    held-requires
+    loop-holds
+    word-at-requires
+    mul-matrix
+    slice-write-matrix
+    add-i
+    loop-less
+    loop-again
+    same-length
+    returns)
