@@ -7,43 +7,44 @@ use native.Mathlib.Omega.{arith}
 use borrow.Author.Tests.{ltb-true, ltb-false, le-ltb, leb-false, lt-leb, eqb-false, ne-eqb, not-false}
 use lib.Dec.{ltb, eqb}
 use lib.ListN.{length}
-use Rattle.labels.specs.Sets.{ceiling}
+use Rattle.numbers.specs.Sizes.{Size, labelCeiling}
 use Rattle.recipe.specs.Tables.{Table, kindOf, rows, procs, kindAt, xAt, yAt, rootAt}
-use Rattle.recipe.specs.Rules.{lowest, sizesRight, kindUnknown, operandsRight, operandWrong, rootMissing, uses, usedAgain, unused, admitted}
+use Rattle.numbers.specs.General.{lowest}
+use Rattle.recipe.specs.Rules.{sizesFit, kindUnknown, operandsRight, operandWrong, rootMissing, uses, usedAgain, unused, admitted}
 use Rattle.recipe.specs.Statements.{Child}
 use Rattle.recipe.specs.declared.Judged.the-variants.{Admitted}
-use Rattle.recipe.proofs.Lowest.{none-at-all, lowest-none}
+use Rattle.numbers.proofs.LowestLaws.{none-at-all, lowest-none}
 use Rattle.recipe.proofs.Operands.{and-first, and-second, child-before}
-use Rattle.recipe.specs.Offences.{Sized, Kept}
+use Rattle.recipe.specs.Offences.{RightSizes, KeepsRules}
 use Rattle.recipe.proofs.Judging.{sized, sizes-test, passed-if-admitted, passed-on, fromOperands, fromRoots, fromUsedAgain, fromUnused, sizes-passed, sizes-refused}
 
-module _ (t : Table) (ok : admitted t) where
-  right-sizes : sizesRight (rows t) (length (t .xs)) (length (t .ys)) (procs t) ≡ true
-  right-sizes = go (sizesRight (rows t) (length (t .xs)) (length (t .ys)) (procs t)) refl
+module _ (z : Size) (t : Table) (ok : admitted z t) where
+  right-sizes : sizesFit z t ≡ true
+  right-sizes = go (sizesFit z t) refl
     where
-      go : (b : Bool) → sizesRight (rows t) (length (t .xs)) (length (t .ys)) (procs t) ≡ b
-          → sizesRight (rows t) (length (t .xs)) (length (t .ys)) (procs t) ≡ true
+      go : (b : Bool) → sizesFit z t ≡ b
+          → sizesFit z t ≡ true
       go true e = e
-      go false e = let h = sym (sizes-refused t e) ∙ ok in let z : _≡_ {A = ℕ} 0 1 = cc in absurd (omega arith)
+      go false e = let h = sym (sizes-refused z t e) ∙ ok in let n : _≡_ {A = ℕ} 0 1 = cc in absurd (omega arith)
 
-  past-kinds : (rows t ≤ lowest (rows t) (λ i. kindUnknown (kindAt t i))) × (fromOperands t ≡ Admitted)
-  past-kinds = passed-if-admitted _ _ _ _ (sym (sizes-passed t right-sizes) ∙ ok)
+  past-kinds : (rows t ≤ lowest (rows t) (λ i. kindUnknown (kindAt t i))) × (fromOperands z t ≡ Admitted)
+  past-kinds = passed-if-admitted _ _ _ _ (sym (sizes-passed z t right-sizes) ∙ ok)
 
-  past-operands : (rows t ≤ lowest (rows t) (operandWrong t)) × (fromRoots t ≡ Admitted)
+  past-operands : (rows t ≤ lowest (rows t) (operandWrong z t)) × (fromRoots z t ≡ Admitted)
   past-operands = passed-if-admitted _ _ _ _ (past-kinds .1)
 
-  past-roots : (procs t ≤ lowest (procs t) (λ f. rootMissing (rows t) (rootAt t f))) × (fromUsedAgain t ≡ Admitted)
+  past-roots : (procs t ≤ lowest (procs t) (λ f. rootMissing (rows t) (rootAt t f))) × (fromUsedAgain z t ≡ Admitted)
   past-roots = passed-if-admitted _ _ _ _ (past-operands .1)
 
-  past-used-again : (rows t ≤ lowest (rows t) (usedAgain t)) × (fromUnused t ≡ Admitted)
+  past-used-again : (rows t ≤ lowest (rows t) (usedAgain t)) × (fromUnused z t ≡ Admitted)
   past-used-again = passed-if-admitted _ _ _ _ (past-roots .1)
 
   past-unused : (rows t ≤ lowest (rows t) (unused t)) × (Admitted ≡ Admitted)
   past-unused = passed-if-admitted _ _ _ _ (past-used-again .1)
 
   -- The lengths match and lie within the ceilings.
-  pub sizes-right : Sized (rows t) (length (t .xs)) (length (t .ys)) (procs t)
-  sizes-right = sized (rows t) (length (t .xs)) (length (t .ys)) (procs t) right-sizes
+  pub sizes-right : RightSizes z (rows t) (length (t .xs)) (length (t .ys)) (procs t)
+  sizes-right = sized z (rows t) (length (t .xs)) (length (t .ys)) (procs t) right-sizes
 
   -- A root is a row.
   pub root-row : (f : ℕ) → f < procs t → rootAt t f < rows t
@@ -55,26 +56,26 @@ module _ (t : Table) (ok : admitted t) where
     pub kind-known : kindAt t i ≤ 6
     kind-known = ltb-false 6 (kindAt t i) (none-at-all (rows t) (λ j. kindUnknown (kindAt t j)) (past-kinds .0) i l)
 
-    pub operand-not-wrong : operandWrong t i ≡ false
-    operand-not-wrong = none-at-all (rows t) (operandWrong t) (past-operands .0) i l
+    pub operand-not-wrong : operandWrong z t i ≡ false
+    operand-not-wrong = none-at-all (rows t) (operandWrong z t) (past-operands .0) i l
 
     -- The operands are as the kind wants them.
-    pub operands-right : operandsRight (kindOf (kindAt t i)) (xAt t i) (yAt t i) i (procs t) ≡ true
+    pub operands-right : operandsRight z (kindOf (kindAt t i)) (xAt t i) (yAt t i) i (procs t) ≡ true
     operands-right = not-false _ operand-not-wrong
 
-    right-of : (k : ℕ) → kindAt t i ≡ k → operandsRight (kindOf k) (xAt t i) (yAt t i) i (procs t) ≡ true
-    right-of k e = subst (λ (n : ℕ). operandsRight (kindOf n) (xAt t i) (yAt t i) i (procs t) ≡ true) e operands-right
+    right-of : (k : ℕ) → kindAt t i ≡ k → operandsRight z (kindOf k) (xAt t i) (yAt t i) i (procs t) ≡ true
+    right-of k e = subst (λ (n : ℕ). operandsRight z (kindOf n) (xAt t i) (yAt t i) i (procs t) ≡ true) e operands-right
 
     -- A kind whose rule is that x lies below a bound and y is 0.
-    first-below : (k bound : ℕ) → operandsRight (kindOf k) (xAt t i) (yAt t i) i (procs t) ≡ ltb (xAt t i) bound && eqb (yAt t i) 0
+    first-below : (k bound : ℕ) → operandsRight z (kindOf k) (xAt t i) (yAt t i) i (procs t) ≡ ltb (xAt t i) bound && eqb (yAt t i) 0
         → kindAt t i ≡ k → xAt t i < bound
     first-below k bound rule e =
         ltb-true (xAt t i) bound (and-first (ltb (xAt t i) bound) (eqb (yAt t i) 0) (sym rule ∙ right-of k e))
 
-    -- The label of a step lies below the ceiling.
-    pub step-label : kindAt t i ≡ 1 → xAt t i < ceiling 1
+    -- The label of a step lies below the labelCeiling.
+    pub step-label : kindAt t i ≡ 1 → xAt t i < labelCeiling (z .words)
     unfolding operandsRight
-    step-label = first-below 1 (ceiling 1) refl
+    step-label = first-below 1 (labelCeiling (z .words)) refl
 
     -- The children of a seq have smaller numbers.
     pub seq-children : kindAt t i ≡ 2 → (xAt t i < i) × (yAt t i < i)
@@ -106,7 +107,7 @@ module _ (t : Table) (ok : admitted t) where
 
     -- A child, of whatever kind, has a smaller number.
     pub child-smaller : (k : ℕ) → Child t i k → k < i
-    child-smaller k = child-before t i k operand-not-wrong
+    child-smaller k = child-before z t i k operand-not-wrong
 
     -- Each row is used exactly once.
     pub used-once : uses t i ≡ 1
@@ -116,15 +117,15 @@ module _ (t : Table) (ok : admitted t) where
         omega arith
 
 -- An admitted table keeps every rule.
-pub admitted-kept : (t : Table) → admitted t → Kept t
-admitted-kept t ok =
-    record { sizes = sizes-right t ok; kinds = kind-known t ok; operands = operands-right t ok; roots = root-row t ok; once = used-once t ok }
+pub admitted-kept : (z : Size) (t : Table) → admitted z t → KeepsRules z t
+admitted-kept z t ok =
+    record { sizes = sizes-right z t ok; kinds = kind-known z t ok; operands = operands-right z t ok; roots = root-row z t ok; once = used-once z t ok }
 
 -- A table that keeps every rule is admitted: the judge refuses nothing else.
-pub kept-admitted : (t : Table) → Kept t → admitted t
-kept-admitted t k =
+pub kept-admitted : (z : Size) (t : Table) → KeepsRules z t → admitted z t
+kept-admitted z t k =
     let n = rows t in
-    sizes-passed t (sizes-test (k .sizes))
+    sizes-passed z t (sizes-test (k .sizes))
     ∙ passed-on n _ _ _ n (lowest-none n _ (λ i l. le-ltb 6 (kindAt t i) (k .kinds i l))) (omega arith)
     ∙ passed-on n _ _ _ n (lowest-none n _ (λ i l. ap not (k .operands i l))) (omega arith)
     ∙ passed-on (procs t) _ _ _ (procs t) (lowest-none (procs t) _ (λ f l. lt-leb n (rootAt t f) (k .roots f l))) (omega arith)

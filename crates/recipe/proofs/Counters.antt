@@ -10,12 +10,12 @@ use borrow.Author.Tests.{eqb-true, eqb-false, eq-eqb, ne-eqb, lt-ltb, le-ltb}
 use lib.Dec.{eqb, ltb}
 use lib.ListN.{length, getD, set, length-set, replicate, length-replicate, getD-replicate}
 use lib.Seq.{getD-set-same, getD-set-other}
-use Rattle.labels.specs.Words.{oneIf}
-use Rattle.numbers.specs.Ceilings.{rowCeiling}
+use Rattle.numbers.specs.General.{oneIf, lowest}
+use Rattle.numbers.specs.Sizes.{rowCeiling}
 use Rattle.recipe.specs.Tables.{kindOf}
-use Rattle.recipe.specs.Rules.{lowest, usesBy}
-use Rattle.recipe.specs.Counting.{Counts}
-use Rattle.recipe.proofs.Lowest.{lowest-same}
+use Rattle.recipe.specs.Rules.{usesBy}
+use Rattle.recipe.specs.Inner.{Counts}
+use Rattle.numbers.proofs.LowestLaws.{lowest-same}
 
 -- Counters say the same of two counts that are equal everywhere.
 pub counts-same : (counts : List ℕ) (met other : ℕ → ℕ) → ((i : ℕ) → met i ≡ other i) → Counts counts met → Counts counts other

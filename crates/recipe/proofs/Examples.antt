@@ -3,10 +3,11 @@
 use Prim.Native.Nat.{ℕ}
 use mathlib.Core.List.{[], _∷_}
 use mathlib.Core.Path.{_≡_, refl}
-use Rattle.labels.specs.Words.{sumBelow}
+use Rattle.numbers.specs.Sizes.{ours}
+use Rattle.numbers.specs.General.{sumBelow, lowest}
 use Rattle.calculus.specs.Syntax.{Stmt}
 use Rattle.recipe.specs.Tables.{Table, tableOf}
-use Rattle.recipe.specs.Rules.{lowest, sizesRight, operandsRight, usesBy, refusedAt, judged, admitted}
+use Rattle.recipe.specs.Rules.{sizesRight, operandsRight, usesBy, refusedAt, judged, admitted}
 use Rattle.recipe.specs.Statements.{rowStatement, statementTo, statementAt, programOf}
 use Rattle.numbers.specs.declared.Refusal.the-variants.{Sizes, UnknownKind, WrongOperand, NoSuchRow, UsedAgain, Unused}
 use Rattle.recipe.specs.declared.Judged.the-variants.{Refused}
@@ -21,19 +22,19 @@ two kind x y root = tableOf (0 ∷ kind ∷ []) (0 ∷ x ∷ []) (0 ∷ y ∷ []
 
 -- The limits: labels end below the ceiling, children stand below their row, calls name a procedure, operands without use are 0.
 limits :
-    admitted (one 1 63 0)
-    × (judged (one 1 64 0) ≡ Refused (WrongOperand (record { 0 = 0 })))
-    × admitted (one 6 0 0)
-    × (judged (one 6 1 0) ≡ Refused (WrongOperand (record { 0 = 0 })))
-    × (judged (one 0 0 1) ≡ Refused (WrongOperand (record { 0 = 0 })))
-    × (judged (one 7 0 0) ≡ Refused (UnknownKind (record { 0 = 0 })))
-    × admitted (two 3 0 0 1)
-    × (judged (two 3 1 0 1) ≡ Refused (WrongOperand (record { 0 = 1 })))
-    × (judged (two 3 0 0 2) ≡ Refused (NoSuchRow (record { 0 = 0 })))
-    × (judged (two 2 0 0 1) ≡ Refused (UsedAgain (record { 0 = 0 })))
-    × (judged (two 0 0 0 1) ≡ Refused (Unused (record { 0 = 0 })))
-    × (judged (tableOf [] [] [] []) ≡ Refused Sizes)
-    × (judged (tableOf (0 ∷ []) [] (0 ∷ []) (0 ∷ [])) ≡ Refused Sizes)
+    admitted ours (one 1 63 0)
+    × (judged ours (one 1 64 0) ≡ Refused (WrongOperand (record { 0 = 0 })))
+    × admitted ours (one 6 0 0)
+    × (judged ours (one 6 1 0) ≡ Refused (WrongOperand (record { 0 = 0 })))
+    × (judged ours (one 0 0 1) ≡ Refused (WrongOperand (record { 0 = 0 })))
+    × (judged ours (one 7 0 0) ≡ Refused (UnknownKind (record { 0 = 0 })))
+    × admitted ours (two 3 0 0 1)
+    × (judged ours (two 3 1 0 1) ≡ Refused (WrongOperand (record { 0 = 1 })))
+    × (judged ours (two 3 0 0 2) ≡ Refused (NoSuchRow (record { 0 = 0 })))
+    × (judged ours (two 2 0 0 1) ≡ Refused (UsedAgain (record { 0 = 0 })))
+    × (judged ours (two 0 0 0 1) ≡ Refused (Unused (record { 0 = 0 })))
+    × (judged ours (tableOf [] [] [] []) ≡ Refused Sizes)
+    × (judged ours (tableOf (0 ∷ []) [] (0 ∷ []) (0 ∷ [])) ≡ Refused Sizes)
 unfolding judged refusedAt lowest sizesRight operandsRight usesBy sumBelow
 limits = (refl, refl, refl, refl, refl, refl, refl, refl, refl, refl, refl, refl, refl)
 
@@ -43,7 +44,7 @@ seven =
     tableOf (1 ∷ 4 ∷ 1 ∷ 2 ∷ 6 ∷ 0 ∷ 3 ∷ 5 ∷ []) (0 ∷ 0 ∷ 1 ∷ 1 ∷ 1 ∷ 0 ∷ 5 ∷ 6 ∷ [])
     (0 ∷ 0 ∷ 0 ∷ 2 ∷ 0 ∷ 0 ∷ 0 ∷ 0 ∷ []) (3 ∷ 4 ∷ 7 ∷ [])
 
-seven-admitted : admitted seven
+seven-admitted : admitted ours seven
 unfolding judged refusedAt lowest sizesRight operandsRight usesBy sumBelow
 seven-admitted = refl
 

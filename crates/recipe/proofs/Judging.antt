@@ -7,34 +7,35 @@ use native.Mathlib.Omega.{arith}
 use borrow.Author.Tests.{lt-ltb, le-ltb, le-leb, eq-eqb, ltb-false, leb-true, eqb-true}
 use lib.Dec.{ltb, leb, eqb}
 use lib.ListN.{length}
-use Rattle.numbers.specs.Ceilings.{rowCeiling, procCeiling}
+use Rattle.numbers.specs.Sizes.{Size, rowCeiling}
 use Rattle.recipe.specs.Tables.{Table, rows, procs, kindAt, rootAt}
-use Rattle.recipe.specs.Offences.{Sized}
-use Rattle.recipe.specs.Rules.{lowest, fromOneTo, sizesRight, kindUnknown, operandWrong, rootMissing, usedAgain, unused, refusedAt, judged}
+use Rattle.recipe.specs.Offences.{RightSizes}
+use Rattle.numbers.specs.General.{lowest}
+use Rattle.recipe.specs.Rules.{fromOneTo, sizesRight, sizesFit, kindUnknown, operandWrong, rootMissing, usedAgain, unused, refusedAt, judged}
 use Rattle.numbers.specs.declared.Refusal.{Refusal}
 use Rattle.numbers.specs.declared.Refusal.the-variants.{UnknownKind, WrongOperand, NoSuchRow, UsedAgain, Unused, Sizes}
 use Rattle.recipe.specs.declared.Judged.{Judged}
 use Rattle.recipe.specs.declared.Judged.the-variants.{Admitted, Refused}
 use Rattle.recipe.proofs.Operands.{and-first, and-second}
 
-pub sized : (rows xs ys procs : ℕ) → sizesRight rows xs ys procs ≡ true → Sized rows xs ys procs
+pub sized : (z : Size) (rows xs ys procs : ℕ) → sizesRight z rows xs ys procs ≡ true → RightSizes z rows xs ys procs
 unfolding sizesRight
-sized rows xs ys procs h =
-    let three = and-first (fromOneTo rowCeiling rows && fromOneTo procCeiling procs && eqb xs rows) (eqb ys rows) h in
-    let two = and-first (fromOneTo rowCeiling rows && fromOneTo procCeiling procs) (eqb xs rows) three in
-    let one = and-first (fromOneTo rowCeiling rows) (fromOneTo procCeiling procs) two in
-    let other = and-second (fromOneTo rowCeiling rows) (fromOneTo procCeiling procs) two in
+sized z rows xs ys procs h =
+    let three = and-first (fromOneTo rowCeiling rows && fromOneTo (z .procs) procs && eqb xs rows) (eqb ys rows) h in
+    let two = and-first (fromOneTo rowCeiling rows && fromOneTo (z .procs) procs) (eqb xs rows) three in
+    let one = and-first (fromOneTo rowCeiling rows) (fromOneTo (z .procs) procs) two in
+    let other = and-second (fromOneTo rowCeiling rows) (fromOneTo (z .procs) procs) two in
     record {
       some-rows = leb-true 1 rows (and-first (leb 1 rows) (leb rows rowCeiling) one);
       few-rows = leb-true rows rowCeiling (and-second (leb 1 rows) (leb rows rowCeiling) one);
-      some-procs = leb-true 1 procs (and-first (leb 1 procs) (leb procs procCeiling) other);
-      few-procs = leb-true procs procCeiling (and-second (leb 1 procs) (leb procs procCeiling) other);
-      xs-match = eqb-true xs rows (and-second (fromOneTo rowCeiling rows && fromOneTo procCeiling procs) (eqb xs rows) three);
-      ys-match = eqb-true ys rows (and-second (fromOneTo rowCeiling rows && fromOneTo procCeiling procs && eqb xs rows) (eqb ys rows) h);
+      some-procs = leb-true 1 procs (and-first (leb 1 procs) (leb procs (z .procs)) other);
+      few-procs = leb-true procs (z .procs) (and-second (leb 1 procs) (leb procs (z .procs)) other);
+      xs-match = eqb-true xs rows (and-second (fromOneTo rowCeiling rows && fromOneTo (z .procs) procs) (eqb xs rows) three);
+      ys-match = eqb-true ys rows (and-second (fromOneTo rowCeiling rows && fromOneTo (z .procs) procs && eqb xs rows) (eqb ys rows) h);
     }
 
 -- The test of right sizes passes.
-pub sizes-test : {rows xs ys procs : ℕ} → Sized rows xs ys procs → sizesRight rows xs ys procs ≡ true
+pub sizes-test : {z : Size} {rows xs ys procs : ℕ} → RightSizes z rows xs ys procs → sizesRight z rows xs ys procs ≡ true
 unfolding sizesRight
 sizes-test s =
     simp (
@@ -69,7 +70,7 @@ module _ (n : ℕ) (test : ℕ → Bool) (refusal : ℕ → Refusal) (next : Jud
       go true e h = let z : _≡_ {A = ℕ} 0 1 = cc in absurd (omega arith)
       go false e h = (ltb-false (lowest n test) n e, h)
 
-module _ (t : Table) where
+module _ (z : Size) (t : Table) where
   -- What is left of the judgement from each rule on.
   abbrev pub fromUnused : Judged
   fromUnused = refusedAt (rows t) (unused t) (λ i. Unused (record { 0 = i })) Admitted
@@ -81,15 +82,15 @@ module _ (t : Table) where
   fromRoots = refusedAt (procs t) (λ f. rootMissing (rows t) (rootAt t f)) (λ f. NoSuchRow (record { 0 = f })) fromUsedAgain
 
   abbrev pub fromOperands : Judged
-  fromOperands = refusedAt (rows t) (operandWrong t) (λ i. WrongOperand (record { 0 = i })) fromRoots
+  fromOperands = refusedAt (rows t) (operandWrong z t) (λ i. WrongOperand (record { 0 = i })) fromRoots
 
   abbrev pub fromKinds : Judged
   fromKinds = refusedAt (rows t) (λ i. kindUnknown (kindAt t i)) (λ i. UnknownKind (record { 0 = i })) fromOperands
 
-  pub sizes-refused : sizesRight (rows t) (length (t .xs)) (length (t .ys)) (procs t) ≡ false → judged t ≡ Refused Sizes
+  pub sizes-refused : sizesFit z t ≡ false → judged z t ≡ Refused Sizes
   unfolding judged
   sizes-refused h = rw h
 
-  pub sizes-passed : sizesRight (rows t) (length (t .xs)) (length (t .ys)) (procs t) ≡ true → judged t ≡ fromKinds
+  pub sizes-passed : sizesFit z t ≡ true → judged z t ≡ fromKinds
   unfolding judged
   sizes-passed h = ap (λ (b : Bool). cond (not b) (Refused Sizes) fromKinds) h

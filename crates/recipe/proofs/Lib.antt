@@ -1,6 +1,4 @@
 mod Examples
-pub mod Lowest
-pub mod Sums
 pub mod Operands
 pub mod Counters
 pub mod Judging

@@ -6,16 +6,17 @@ use Prim.Native.Nat.{ℕ, _<_}
 use native.Mathlib.Omega.{arith}
 use borrow.Author.Tests.{ltb-true, ltb-false}
 use lib.Dec.{ltb}
-use lib.ListN.{length}
+use Rattle.numbers.specs.Sizes.{Size}
 use Rattle.numbers.specs.declared.Refusal.{Refusal}
 use Rattle.numbers.specs.declared.Refusal.the-variants.{Sizes}
 use Rattle.recipe.specs.Offences.{First, Nowhere, Refuses}
-use Rattle.recipe.specs.Rules.{lowest, sizesRight, refusedAt, judged}
+use Rattle.numbers.specs.General.{lowest}
+use Rattle.recipe.specs.Rules.{sizesFit, refusedAt, judged}
 use Rattle.recipe.specs.Tables.{Table, rows, procs}
 use Rattle.recipe.specs.declared.Judged.{Judged}
 use Rattle.recipe.specs.declared.Judged.the-variants.{Refused}
 use Rattle.recipe.proofs.Judging.{refused-at, passed-on, sizes-refused, sizes-passed}
-use Rattle.recipe.proofs.Lowest.{lowest-is, lowest-passes, lowest-none, none-below, none-at-all}
+use Rattle.numbers.proofs.LowestLaws.{lowest-is, lowest-passes, lowest-none, none-below, none-at-all}
 
 -- ---- one rule: it ends the judgement at its lowest place, or leaves it to the next
 
@@ -40,24 +41,24 @@ module _ (n : ℕ) (test : ℕ → Bool) (refusal : ℕ → Refusal) (next : Jud
 
 -- ---- the whole judgement
 
-pub refused-means : (t : Table) (r : Refusal) → judged t ≡ Refused r → Refuses t r
-refused-means t r h = go (sizesRight (rows t) (length (t .xs)) (length (t .ys)) (procs t)) refl
+pub refused-means : (z : Size) (t : Table) (r : Refusal) → judged z t ≡ Refused r → Refuses z t r
+refused-means z t r h = go (sizesFit z t) refl
   where
-    go : (b : Bool) → sizesRight (rows t) (length (t .xs)) (length (t .ys)) (procs t) ≡ b → Refuses t r
-    go false e = let q : Sizes ≡ r = cc (sizes-refused t e) in subst (Refuses t) q (Refuses.sizes e)
+    go : (b : Bool) → sizesFit z t ≡ b → Refuses z t r
+    go false e = let q : Sizes ≡ r = cc (sizes-refused z t e) in subst (Refuses z t) q (Refuses.sizes e)
     go true e =
-        by-rule _ _ _ _ r (sym (sizes-passed t e) ∙ h) (λ i f q. subst (Refuses t) q (Refuses.kind e f)) (λ kinds h₁.
-        by-rule _ _ _ _ r h₁ (λ i f q. subst (Refuses t) q (Refuses.operand e kinds f)) (λ operands h₂.
-        by-rule _ _ _ _ r h₂ (λ f g q. subst (Refuses t) q (Refuses.root e kinds operands g)) (λ roots h₃.
-        by-rule _ _ _ _ r h₃ (λ i f q. subst (Refuses t) q (Refuses.again e kinds operands roots f)) (λ once h₄.
-        by-rule _ _ _ _ r h₄ (λ i f q. subst (Refuses t) q (Refuses.nobody e kinds operands roots once f)) (λ used h₅.
-        let z : _≡_ {A = ℕ} 0 1 = cc in absurd (omega arith))))))
+        by-rule _ _ _ _ r (sym (sizes-passed z t e) ∙ h) (λ i f q. subst (Refuses z t) q (Refuses.kind e f)) (λ kinds h₁.
+        by-rule _ _ _ _ r h₁ (λ i f q. subst (Refuses z t) q (Refuses.operand e kinds f)) (λ operands h₂.
+        by-rule _ _ _ _ r h₂ (λ f g q. subst (Refuses z t) q (Refuses.root e kinds operands g)) (λ roots h₃.
+        by-rule _ _ _ _ r h₃ (λ i f q. subst (Refuses z t) q (Refuses.again e kinds operands roots f)) (λ once h₄.
+        by-rule _ _ _ _ r h₄ (λ i f q. subst (Refuses z t) q (Refuses.nobody e kinds operands roots once f)) (λ used h₅.
+        let e : _≡_ {A = ℕ} 0 1 = cc in absurd (omega arith))))))
 
-pub means-refused : (t : Table) (r : Refusal) → Refuses t r → judged t ≡ Refused r
-means-refused t _ (Refuses.sizes e) = sizes-refused t e
-means-refused t _ (Refuses.kind e f) = sizes-passed t e ∙ ends _ _ _ _ f
-means-refused t _ (Refuses.operand e k f) = sizes-passed t e ∙ passes-on _ _ _ _ k ∙ ends _ _ _ _ f
-means-refused t _ (Refuses.root e k o f) = sizes-passed t e ∙ passes-on _ _ _ _ k ∙ passes-on _ _ _ _ o ∙ ends _ _ _ _ f
-means-refused t _ (Refuses.again e k o r f) = sizes-passed t e ∙ passes-on _ _ _ _ k ∙ passes-on _ _ _ _ o ∙ passes-on _ _ _ _ r ∙ ends _ _ _ _ f
-means-refused t _ (Refuses.nobody e k o r a f) =
-    sizes-passed t e ∙ passes-on _ _ _ _ k ∙ passes-on _ _ _ _ o ∙ passes-on _ _ _ _ r ∙ passes-on _ _ _ _ a ∙ ends _ _ _ _ f
+pub means-refused : (z : Size) (t : Table) (r : Refusal) → Refuses z t r → judged z t ≡ Refused r
+means-refused z t _ (Refuses.sizes e) = sizes-refused z t e
+means-refused z t _ (Refuses.kind e f) = sizes-passed z t e ∙ ends _ _ _ _ f
+means-refused z t _ (Refuses.operand e k f) = sizes-passed z t e ∙ passes-on _ _ _ _ k ∙ ends _ _ _ _ f
+means-refused z t _ (Refuses.root e k o f) = sizes-passed z t e ∙ passes-on _ _ _ _ k ∙ passes-on _ _ _ _ o ∙ ends _ _ _ _ f
+means-refused z t _ (Refuses.again e k o r f) = sizes-passed z t e ∙ passes-on _ _ _ _ k ∙ passes-on _ _ _ _ o ∙ passes-on _ _ _ _ r ∙ ends _ _ _ _ f
+means-refused z t _ (Refuses.nobody e k o r a f) =
+    sizes-passed z t e ∙ passes-on _ _ _ _ k ∙ passes-on _ _ _ _ o ∙ passes-on _ _ _ _ r ∙ passes-on _ _ _ _ a ∙ ends _ _ _ _ f

@@ -6,7 +6,8 @@ use mathlib.Core.Bool.{Bool, true, false, _&&_, false≢true}
 use native.Mathlib.Omega.{arith}
 use borrow.Author.Tests.{ltb-true, eqb-true, eq-eqb, not-false}
 use lib.Dec.{eqb, ltb}
-use Rattle.labels.specs.Words.{oneIf}
+use Rattle.numbers.specs.Sizes.{Size}
+use Rattle.numbers.specs.General.{oneIf}
 use Rattle.recipe.specs.Tables.{Table, Kind, kindOf, procs, kindAt, xAt, yAt}
 use Rattle.recipe.specs.Rules.{operandsRight, operandWrong, usesBy}
 use Rattle.recipe.specs.Statements.{Child}
@@ -44,11 +45,11 @@ pub counted-once : (a : ℕ) → oneIf (eqb a a) ≡ 1
 counted-once a = ap oneIf (eq-eqb a a refl)
 
 -- A child has a smaller number than its row.
-pub child-below : (k : Kind) (x y row procs i : ℕ) → operandsRight k x y row procs ≡ true → 0 < usesBy k x y i → i < row
+pub child-below : (z : Size) (k : Kind) (x y row procs i : ℕ) → operandsRight z k x y row procs ≡ true → 0 < usesBy k x y i → i < row
 unfolding operandsRight usesBy
-child-below Kind.skip x y row procs i h u = omega arith
-child-below Kind.step x y row procs i h u = omega arith
-child-below Kind.seq x y row procs i h u = go (eqb x i) refl
+child-below z Kind.skip x y row procs i h u = omega arith
+child-below z Kind.step x y row procs i h u = omega arith
+child-below z Kind.seq x y row procs i h u = go (eqb x i) refl
   where
     go : (t : Bool) → eqb x i ≡ t → i < row
     go true e = subst (λ (z : ℕ). z < row) (eqb-true x i e) (ltb-true x row (and-first (ltb x row) (ltb y row) h))
@@ -56,12 +57,12 @@ child-below Kind.seq x y row procs i h u = go (eqb x i) refl
         subst (λ (z : ℕ). z < row)
         (counted-equal y i (omega (arith, ap oneIf e)))
         (ltb-true y row (and-second (ltb x row) (ltb y row) h))
-child-below Kind.loop x y row procs i h u = subst (λ (z : ℕ). z < row) (counted-equal x i u) (ltb-true x row (and-first _ _ h))
-child-below Kind.async x y row procs i h u = subst (λ (z : ℕ). z < row) (counted-equal x i u) (ltb-true x row (and-first _ _ h))
-child-below Kind.finish x y row procs i h u = subst (λ (z : ℕ). z < row) (counted-equal x i u) (ltb-true x row (and-first _ _ h))
-child-below Kind.call x y row procs i h u = omega arith
-child-below Kind.unknown x y row procs i h u = omega arith
+child-below z Kind.loop x y row procs i h u = subst (λ (z : ℕ). z < row) (counted-equal x i u) (ltb-true x row (and-first _ _ h))
+child-below z Kind.async x y row procs i h u = subst (λ (z : ℕ). z < row) (counted-equal x i u) (ltb-true x row (and-first _ _ h))
+child-below z Kind.finish x y row procs i h u = subst (λ (z : ℕ). z < row) (counted-equal x i u) (ltb-true x row (and-first _ _ h))
+child-below z Kind.call x y row procs i h u = omega arith
+child-below z Kind.unknown x y row procs i h u = omega arith
 
 -- The same of a table's row whose operands are right.
-pub child-before : (t : Table) (j i : ℕ) → operandWrong t j ≡ false → Child t j i → i < j
-child-before t j i h u = child-below (kindOf (kindAt t j)) (xAt t j) (yAt t j) j (procs t) i (not-false _ h) u
+pub child-before : (z : Size) (t : Table) (j i : ℕ) → operandWrong z t j ≡ false → Child t j i → i < j
+child-before z t j i h u = child-below z (kindOf (kindAt t j)) (xAt t j) (yAt t j) j (procs t) i (not-false _ h) u

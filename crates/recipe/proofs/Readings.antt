@@ -7,6 +7,7 @@ use native.Mathlib.Numerals.{add-one}
 use native.Mathlib.Nat.{le-of-suc-le-suc}
 use native.Mathlib.Omega.{arith}
 use lib.ListN.{length, getD, length-map}
+use Rattle.numbers.specs.Sizes.{Size}
 use Rattle.calculus.specs.Syntax.{Stmt, body}
 use Rattle.recipe.specs.Tables.{Table, Kind, kindOf, rows, procs, kindAt, xAt, yAt, rootAt}
 use Rattle.recipe.specs.Rules.{usesBy, admitted}
@@ -26,7 +27,7 @@ by-children Kind.finish x y f g same = ap Stmt.finish (same x (omega (arith, cou
 by-children Kind.call x y f g same = refl
 by-children Kind.unknown x y f g same = refl
 
-module _ (t : Table) (ok : admitted t) where
+module _ (z : Size) (t : Table) (ok : admitted z t) where
   -- Two depths above a row's number read the same statement.
   depth-free : (n m i : ℕ) → i < n → i < m → i < rows t → statementTo n t i ≡ statementTo m t i
   unfolding statementTo
@@ -34,7 +35,7 @@ module _ (t : Table) (ok : admitted t) where
   depth-free (suc n) zero i a b l = absurd (omega arith)
   depth-free (suc n) (suc m) i a b l =
       by-children (kindOf (kindAt t i)) (xAt t i) (yAt t i) (statementTo n t) (statementTo m t)
-      (λ k c. let s : k < i = child-smaller t ok i l k c in depth-free n m k (omega arith) (omega arith) (omega arith))
+      (λ k c. let s : k < i = child-smaller z t ok i l k c in depth-free n m k (omega arith) (omega arith) (omega arith))
 
   module _ (i : ℕ) (l : i < rows t) where
     -- The statement of a row, by its kind and the statements of its children.
@@ -43,7 +44,7 @@ module _ (t : Table) (ok : admitted t) where
     statement-by-row =
         ap (λ (n : ℕ). statementTo n t i) (add-one i)
         ∙ by-children (kindOf (kindAt t i)) (xAt t i) (yAt t i) (statementTo i t) (statementAt t)
-        (λ k c. let s : k < i = child-smaller t ok i l k c in depth-free i (k + 1) k s (omega arith) (omega arith))
+        (λ k c. let s : k < i = child-smaller z t ok i l k c in depth-free i (k + 1) k s (omega arith) (omega arith))
 
     statement-of : (k : ℕ) → kindAt t i ≡ k → statementAt t i ≡ rowStatement (kindOf k) (xAt t i) (yAt t i) (statementAt t)
     statement-of k e = statement-by-row ∙ ap (λ (n : ℕ). rowStatement (kindOf n) (xAt t i) (yAt t i) (statementAt t)) e

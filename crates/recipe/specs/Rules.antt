@@ -1,50 +1,47 @@
--- The rules of the table, and the order in which they are tried.
-use Prim.Native.Nat.{ℕ, zero, suc, _+_}
+-- The rules of a table of some size, and the order in which they are tried.
+use Prim.Native.Nat.{ℕ, _+_}
 use mathlib.Core.Path.{_≡_}
 use mathlib.Core.Bool.{Bool, false, cond, not, _&&_}
 use lib.ListN.{length}
 use lib.Dec.{eqb, ltb, leb}
-use Rattle.labels.specs.Words.{oneIf, sumBelow}
-use Rattle.labels.specs.Matrix.{matrixWords}
-use Rattle.labels.specs.Sets.{ceiling}
-use Rattle.numbers.specs.Ceilings.{rowCeiling, procCeiling}
+use Rattle.numbers.specs.General.{oneIf, sumBelow, lowest}
+use Rattle.numbers.specs.Sizes.{Size, rowCeiling, labelCeiling, matrixWords}
 use Rattle.recipe.specs.Tables.{Table, Kind, kindOf, rows, procs, kindAt, xAt, yAt, rootAt}
 use Rattle.numbers.specs.declared.Refusal.{Refusal}
 use Rattle.numbers.specs.declared.Refusal.the-variants.{Sizes, ShortMatrix, UnknownKind, WrongOperand, NoSuchRow, UsedAgain, Unused}
 use Rattle.recipe.specs.declared.Judged.{Judged}
 use Rattle.recipe.specs.declared.Judged.the-variants.{Admitted, Refused}
 
--- The least k below n at which the test passes, and n where there is none.
-unfoldable pub lowest : ℕ → (ℕ → Bool) → ℕ
-lowest zero test = zero
-lowest (suc n) test = cond (test zero) zero (suc (lowest n (λ k. test (suc k))))
-
 -- Whether n lies from 1 to the ceiling.
 abbrev pub fromOneTo : ℕ → ℕ → Bool
 fromOneTo top n = leb 1 n && leb n top
 
 -- Whether rows and procedures are neither none nor too many, and each row has both its operands.
-unfoldable pub sizesRight : ℕ → ℕ → ℕ → ℕ → Bool
-sizesRight rows xs ys procs = fromOneTo rowCeiling rows && fromOneTo procCeiling procs && eqb xs rows && eqb ys rows
+unfoldable pub sizesRight : Size → ℕ → ℕ → ℕ → ℕ → Bool
+sizesRight z rows xs ys procs = fromOneTo rowCeiling rows && fromOneTo (z .procs) procs && eqb xs rows && eqb ys rows
+
+-- Whether the table's sizes are right.
+abbrev pub sizesFit : Size → Table → Bool
+sizesFit z t = sizesRight z (rows t) (length (t .xs)) (length (t .ys)) (procs t)
 
 -- Whether a kind's number is above 6.
 abbrev pub kindUnknown : ℕ → Bool
 kindUnknown kind = ltb 6 kind
 
 -- Whether the operands x and y suit a row of this kind, with this number, in a table with so many procedures.
-unfoldable pub operandsRight : Kind → ℕ → ℕ → ℕ → ℕ → Bool
-operandsRight Kind.skip x y row procs = eqb x 0 && eqb y 0
-operandsRight Kind.step x y row procs = ltb x (ceiling 1) && eqb y 0
-operandsRight Kind.seq x y row procs = ltb x row && ltb y row
-operandsRight Kind.loop x y row procs = ltb x row && eqb y 0
-operandsRight Kind.async x y row procs = ltb x row && eqb y 0
-operandsRight Kind.finish x y row procs = ltb x row && eqb y 0
-operandsRight Kind.call x y row procs = ltb x procs && eqb y 0
-operandsRight Kind.unknown x y row procs = false
+unfoldable pub operandsRight : Size → Kind → ℕ → ℕ → ℕ → ℕ → Bool
+operandsRight z Kind.skip x y row procs = eqb x 0 && eqb y 0
+operandsRight z Kind.step x y row procs = ltb x (labelCeiling (z .words)) && eqb y 0
+operandsRight z Kind.seq x y row procs = ltb x row && ltb y row
+operandsRight z Kind.loop x y row procs = ltb x row && eqb y 0
+operandsRight z Kind.async x y row procs = ltb x row && eqb y 0
+operandsRight z Kind.finish x y row procs = ltb x row && eqb y 0
+operandsRight z Kind.call x y row procs = ltb x procs && eqb y 0
+operandsRight z Kind.unknown x y row procs = false
 
 -- Whether an operand of row i breaks the rule of the row's kind.
-abbrev pub operandWrong : Table → ℕ → Bool
-operandWrong t i = not (operandsRight (kindOf (kindAt t i)) (xAt t i) (yAt t i) i (procs t))
+abbrev pub operandWrong : Size → Table → ℕ → Bool
+operandWrong z t i = not (operandsRight z (kindOf (kindAt t i)) (xAt t i) (yAt t i) i (procs t))
 
 -- Whether a root is not a row, of so many rows.
 abbrev pub rootMissing : ℕ → ℕ → Bool
@@ -86,20 +83,19 @@ unfoldable pub refusedAt : ℕ → (ℕ → Bool) → (ℕ → Refusal) → Judg
 refusedAt n test refusal next = cond (ltb (lowest n test) n) (Refused (refusal (lowest n test))) next
 
 -- What the judge replies: each rule is tried over the whole table before the next.
-unfoldable pub judged : Table → Judged
-judged t =
-    cond (not (sizesRight (rows t) (length (t .xs)) (length (t .ys)) (procs t))) (Refused Sizes)
+unfoldable pub judged : Size → Table → Judged
+judged z t =
+    cond (not (sizesFit z t)) (Refused Sizes)
     (refusedAt (rows t) (λ i. kindUnknown (kindAt t i)) (λ i. UnknownKind (record { 0 = i }))
-    (refusedAt (rows t) (operandWrong t) (λ i. WrongOperand (record { 0 = i }))
+    (refusedAt (rows t) (operandWrong z t) (λ i. WrongOperand (record { 0 = i }))
     (refusedAt (procs t) (λ f. rootMissing (rows t) (rootAt t f)) (λ f. NoSuchRow (record { 0 = f }))
     (refusedAt (rows t) (usedAgain t) (λ i. UsedAgain (record { 0 = i }))
     (refusedAt (rows t) (unused t) (λ i. Unused (record { 0 = i })) Admitted)))))
 
 -- The table is admitted.
-abbrev pub admitted : Table → Type 0
-admitted t = judged t ≡ Admitted
+abbrev pub admitted : Size → Table → Type 0
+admitted z t = judged z t ≡ Admitted
 
 -- The judge's reply, where a matrix that is too short is refused after wrong sizes and before all else.
-unfoldable pub judgedWith : Table → ℕ → Judged
-judgedWith t words =
-    cond (sizesRight (rows t) (length (t .xs)) (length (t .ys)) (procs t) && ltb words (matrixWords 1)) (Refused ShortMatrix) (judged t)
+unfoldable pub judgedWith : Size → Table → ℕ → Judged
+judgedWith z t words = cond (sizesFit z t && ltb words (matrixWords (z .words))) (Refused ShortMatrix) (judged z t)

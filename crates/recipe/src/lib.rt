@@ -3,9 +3,10 @@ mod rules;
 mod usage;
 
 ghost use mathlib.Core.Path.{_≡_};
+ghost use Rattle.numbers.specs.Sizes.{ours};
 ghost use Rattle.recipe.specs.Tables.{tableOf};
 ghost use Rattle.recipe.specs.Rules.{sizesRight, judged, judgedWith};
-use labels::Label;
+use numbers::MATRIX_WORDS;
 use numbers::ProcNumber;
 use numbers::Refusal;
 use numbers::RowNumber;
@@ -26,7 +27,7 @@ pub enum Judged {
 
 // Whether there are from 1 to the ceiling rows and procedures, and both operands to each row.
 fn sizes_right(rows: usize, xs: usize, ys: usize, procs: usize) -> bool
-    ensures { λ r. ⌜ r ≡ sizesRight rows xs ys procs ⌝ }
+    ensures { λ r. ⌜ r ≡ sizesRight ours rows xs ys procs ⌝ }
 {
     if rows < 1 {
         return false;
@@ -49,7 +50,7 @@ fn sizes_right(rows: usize, xs: usize, ys: usize, procs: usize) -> bool
 // Judges a table, given as the rows' kinds, their first and their second operands, and the procedures' roots. It reads each
 // row and each root a fixed number of times, and writes to nothing that is lent.
 pub fn judge(kinds: &[u8], xs: &[u16], ys: &[u16], roots: &[u16]) -> Judged
-    ensures { λ r. ⌜ r ≡ judged (tableOf (now (kinds .entry)) (now (xs .entry)) (now (ys .entry)) (now (roots .entry))) ⌝ }
+    ensures { λ r. ⌜ r ≡ judged ours (tableOf (now (kinds .entry)) (now (xs .entry)) (now (ys .entry)) (now (roots .entry))) ⌝ }
 {
     let rows = kinds.len();
     let procs = roots.len();
@@ -84,12 +85,12 @@ pub fn judge(kinds: &[u8], xs: &[u16], ys: &[u16], roots: &[u16]) -> Judged
 
 // Judges a table for whoever is lent a matrix of so many words: wrong sizes first, then a matrix that is too short, then the rest.
 pub fn judge_with(kinds: &[u8], xs: &[u16], ys: &[u16], roots: &[u16], words: usize) -> Judged
-    ensures { λ r. ⌜ r ≡ judgedWith (tableOf (now (kinds .entry)) (now (xs .entry)) (now (ys .entry)) (now (roots .entry))) words ⌝ }
+    ensures { λ r. ⌜ r ≡ judgedWith ours (tableOf (now (kinds .entry)) (now (xs .entry)) (now (ys .entry)) (now (roots .entry))) words ⌝ }
 {
     if !sizes_right(kinds.len(), xs.len(), ys.len(), roots.len()) {
         return Judged::Refused(Refusal::Sizes);
     }
-    if words < Label::CEILING {
+    if words < MATRIX_WORDS {
         return Judged::Refused(Refusal::ShortMatrix);
     }
     judge(kinds, xs, ys, roots)

@@ -3,8 +3,10 @@
 use labels::Label;
 ghost use mathlib.Core.Path.{_≡_};
 ghost use lib.ListN.{length, getD};
+ghost use Rattle.numbers.specs.Sizes.{ours};
 ghost use Rattle.recipe.specs.Tables.{kindOf, tableOf};
-ghost use Rattle.recipe.specs.Rules.{lowest, kindUnknown, operandsRight, operandWrong, rootMissing};
+ghost use Rattle.numbers.specs.General.{lowest};
+ghost use Rattle.recipe.specs.Rules.{kindUnknown, operandsRight, operandWrong, rootMissing};
 
 // The lowest row whose kind is none of the seven.
 pub(crate) fn unknown_kind(kinds: &[u8]) -> usize
@@ -22,7 +24,7 @@ pub(crate) fn unknown_kind(kinds: &[u8]) -> usize
 
 // Whether the operands of a row are as its kind wants them. Each kind has its own rule.
 fn operands_right(kind: u8, x: usize, y: usize, row: usize, procs: usize) -> bool
-    ensures { λ r. ⌜ r ≡ operandsRight (kindOf kind) x y row procs ⌝ }
+    ensures { λ r. ⌜ r ≡ operandsRight ours (kindOf kind) x y row procs ⌝ }
 {
     match kind {
         0 => x == 0 && y == 0,
@@ -39,7 +41,7 @@ fn operands_right(kind: u8, x: usize, y: usize, row: usize, procs: usize) -> boo
 // The lowest row with an operand that breaks the rule of the row's kind.
 pub(crate) fn wrong_operand(kinds: &[u8], xs: &[u16], ys: &[u16], roots: &[u16]) -> usize
     requires { ⌜ (length (now xs) ≡ length (now kinds)) × (length (now ys) ≡ length (now kinds)) ⌝ }
-    ensures { λ r. ⌜ r ≡ lowest (length (now (kinds .entry))) (operandWrong (tableOf (now (kinds .entry)) (now (xs .entry)) (now (ys .entry)) (now (roots .entry)))) ⌝ }
+    ensures { λ r. ⌜ r ≡ lowest (length (now (kinds .entry))) (operandWrong ours (tableOf (now (kinds .entry)) (now (xs .entry)) (now (ys .entry)) (now (roots .entry)))) ⌝ }
 {
     let mut i = 0;
     while i < kinds.len() {

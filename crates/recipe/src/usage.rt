@@ -5,11 +5,11 @@ ghost use mathlib.Core.List.{[]};
 ghost use mathlib.Core.Path.{_≡_};
 ghost use lib.Dec.{eqb};
 ghost use lib.ListN.{length, getD};
-ghost use Rattle.labels.specs.Words.{oneIf};
-ghost use Rattle.numbers.specs.Ceilings.{rowCeiling};
+ghost use Rattle.numbers.specs.General.{oneIf, lowest};
+ghost use Rattle.numbers.specs.Sizes.{rowCeiling};
 ghost use Rattle.recipe.specs.Tables.{kindOf, tableOf};
-ghost use Rattle.recipe.specs.Rules.{lowest, usesBy, childUses, rootUses};
-ghost use Rattle.recipe.specs.Counting.{Counts};
+ghost use Rattle.recipe.specs.Rules.{usesBy, childUses, rootUses};
+ghost use Rattle.recipe.specs.Inner.{Counts};
 
 // Counts one use of a row.
 fn count(counts: &mut [u8; RowNumber::CEILING], row: usize)

@@ -8,13 +8,15 @@ use denote.Ref.{now}
 use lib.ListN.{length}
 use native.Mathlib.Omega.{arith}
 use borrow.Author.Tests.{not-true, not-false, leb-false}
+use Rattle.numbers.specs.Sizes.{ours}
 use Rattle.recipe.specs.Tables.{Table, tableOf, rows, procs, rootAt}
-use Rattle.recipe.specs.Rules.{lowest, operandWrong, rootMissing, uses, usedAgain, unused, judged, sizesRight}
-use Rattle.recipe.specs.Counting.{Counts}
-use Rattle.recipe.proofs.Lowest.{none-at-all}
+use Rattle.numbers.specs.General.{lowest}
+use Rattle.recipe.specs.Rules.{operandWrong, rootMissing, uses, usedAgain, unused, judged, sizesFit}
+use Rattle.recipe.specs.Inner.{Counts}
+use Rattle.numbers.proofs.LowestLaws.{none-at-all}
 use Rattle.recipe.proofs.Operands.{child-before}
 use Rattle.recipe.proofs.Counters.{counts-none, lowest-at-two, lowest-at-zero}
-use Rattle.recipe.specs.Offences.{Sized}
+use Rattle.recipe.specs.Offences.{RightSizes}
 use Rattle.recipe.proofs.Judging.{sized, refused-at, passed-on, fromKinds, fromOperands, fromRoots, fromUsedAgain, fromUnused, sizes-refused, sizes-passed}
 use Rattle.recipe.proofs.judge.Statement.{statement}
 use Rattle.recipe.proofs.judge.Tie as tie
@@ -53,26 +55,26 @@ abbrev before-searches : tie.After-first-with → tie.Else4
 before-searches c = before-counting (before-again c)
 
 -- The sizes are right past their rule, and still past the later ones.
-right-sizes : (c : tie.Else1) → let t = past-sizes c in sizesRight (rows t) (length (t .xs)) (length (t .ys)) (procs t) ≡ true
+right-sizes : (c : tie.Else1) → let t = past-sizes c in sizesFit ours t ≡ true
 right-sizes c = sym (c .before .sizes-right .ensures) ∙ not-false _ (c .if1 .left)
 
-sizes : (c : tie.Else1) → let t = past-sizes c in Sized (rows t) (length (t .xs)) (length (t .ys)) (procs t)
-sizes c = let t = past-sizes c in sized (rows t) (length (t .xs)) (length (t .ys)) (procs t) (right-sizes c)
+sizes : (c : tie.Else1) → let t = past-sizes c in RightSizes ours (rows t) (length (t .xs)) (length (t .ys)) (procs t)
+sizes c = let t = past-sizes c in sized ours (rows t) (length (t .xs)) (length (t .ys)) (procs t) (right-sizes c)
 
-sizes-still : (c : tie.Else4) → let t = past-roots c in Sized (rows t) (length (t .xs)) (length (t .ys)) (procs t)
+sizes-still : (c : tie.Else4) → let t = past-roots c in RightSizes ours (rows t) (length (t .xs)) (length (t .ys)) (procs t)
 sizes-still c = sizes (c .before .before .before .before .before .before)
 
 -- Past each rule the definition has come to the next.
-to-kinds : (c : tie.Else1) → judged (past-sizes c) ≡ fromKinds (past-sizes c)
-to-kinds c = sizes-passed (past-sizes c) (right-sizes c)
+to-kinds : (c : tie.Else1) → judged ours (past-sizes c) ≡ fromKinds ours (past-sizes c)
+to-kinds c = sizes-passed ours (past-sizes c) (right-sizes c)
 
-to-operands : (c : tie.Else2) → judged (past-kinds c) ≡ fromOperands (past-kinds c)
+to-operands : (c : tie.Else2) → judged ours (past-kinds c) ≡ fromOperands ours (past-kinds c)
 to-operands c = to-kinds (c .before .before) ∙ passed-on _ _ _ _ _ (c .before .unknown-kind .ensures) (c .if2 .left)
 
-to-roots : (c : tie.Else3) → judged (past-operands c) ≡ fromRoots (past-operands c)
+to-roots : (c : tie.Else3) → judged ours (past-operands c) ≡ fromRoots ours (past-operands c)
 to-roots c = to-operands (c .before .before) ∙ passed-on _ _ _ _ _ (c .before .wrong-operand .ensures) (c .if3 .left)
 
-to-used-again : (c : tie.Else4) → judged (past-roots c) ≡ fromUsedAgain (past-roots c)
+to-used-again : (c : tie.Else4) → judged ours (past-roots c) ≡ fromUsedAgain ours (past-roots c)
 to-used-again c = to-roots (c .before .before) ∙ passed-on _ _ _ _ _ (c .before .missing-row .ensures) (c .if4 .left)
 
 -- The counters hold the uses, so the two searches of them find the rows that the rules ask for.
@@ -90,14 +92,14 @@ unused-is c =
     let d = before-again (before-unused c) in
     c .first-with2 .ensures ∙ lowest-at-zero (d .count-roots .last .0) _ _ (sizes-still (before-counting d) .few-rows) (counted d)
 
-to-unused : (c : tie.Else5) → let t = past-roots (before-searches (c .before)) in judged t ≡ fromUnused t
+to-unused : (c : tie.Else5) → let t = past-roots (before-searches (c .before)) in judged ours t ≡ fromUnused ours t
 to-unused c = to-used-again (before-searches (c .before)) ∙ passed-on _ _ _ _ _ (again-is (c .before)) (c .if5 .left)
 
 sizes-right-requires : tie.Need-sizes-right-requires
 sizes-right-requires c κs = tt
 
 returns : tie.Need-returns
-returns c = sym (sizes-refused (at-sizes (c .before)) (sym (c .before .sizes-right .ensures) ∙ not-true _ (c .if1 .taken)))
+returns c = sym (sizes-refused ours (at-sizes (c .before)) (sym (c .before .sizes-right .ensures) ∙ not-true _ (c .if1 .taken)))
 
 unknown-kind-requires : tie.Need-unknown-kind-requires
 unknown-kind-requires c κs = tt
@@ -131,9 +133,9 @@ count-children-requires c κs =
     let s = sizes-still (c .before) in
     let t = past-roots (c .before) in
     let operands = c .before .before .before in
-    let none : rows t ≤ lowest (rows t) (operandWrong t) = omega (arith, operands .before .wrong-operand .ensures, operands .if3 .left) in (
+    let none : rows t ≤ lowest (rows t) (operandWrong ours t) = omega (arith, operands .before .wrong-operand .ensures, operands .if3 .left) in (
       (s .xs-match, s .ys-match),
-      ((λ j i l u. omega (arith, s, child-before t j i (none-at-all (rows t) (operandWrong t) none j l) u)), counts-none),
+      ((λ j i l u. omega (arith, s, child-before ours t j i (none-at-all (rows t) (operandWrong ours t) none j l) u)), counts-none),
     )
 
 count-roots-requires : tie.Need-count-roots-requires

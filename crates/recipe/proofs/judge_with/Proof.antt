@@ -3,6 +3,7 @@
 use mathlib.Core.Path.{sym, _∙_}
 use borrow.Author.Tests.{not-true, not-false}
 use denote.Ref.{now}
+use Rattle.numbers.specs.Sizes.{ours}
 use Rattle.recipe.specs.Tables.{tableOf}
 use Rattle.recipe.proofs.WithMatrix.{wrong-sizes, short-matrix, whole-matrix}
 use borrow.Author.Needs.{needs}
@@ -15,12 +16,12 @@ sizes-right-requires c κs = search needs
 returns : tie.Need-returns
 returns c =
     let a = c .before .before .before .before .before .before .args in
-    wrong-sizes (tableOf (now (a .kinds)) (now (a .xs)) (now (a .ys)) (now (a .roots))) (a .words) (sym (c .before .sizes-right .ensures) ∙ not-true _ (c .if1 .taken))
+    wrong-sizes ours (tableOf (now (a .kinds)) (now (a .xs)) (now (a .ys)) (now (a .roots))) (a .words) (sym (c .before .sizes-right .ensures) ∙ not-true _ (c .if1 .taken))
 
 returns-2 : tie.Need-returns-2
 returns-2 c =
     let a = c .before .before .before .before .before .before .before .args in
-    short-matrix (tableOf (now (a .kinds)) (now (a .xs)) (now (a .ys)) (now (a .roots))) (a .words) (sym (c .before .before .sizes-right .ensures) ∙ not-false _ (c .before .if1 .left)) (c .if2 .taken)
+    short-matrix ours (tableOf (now (a .kinds)) (now (a .xs)) (now (a .ys)) (now (a .roots))) (a .words) (sym (c .before .before .sizes-right .ensures) ∙ not-false _ (c .before .if1 .left)) (c .if2 .taken)
 
 judge-requires : tie.Need-judge-requires
 judge-requires c κs = search needs
@@ -28,7 +29,7 @@ judge-requires c κs = search needs
 returns-3 : tie.Need-returns-3
 returns-3 c =
     let a = c .before .before .before .before .before .before .before .before .args in
-    c .judge .ensures ∙ whole-matrix (tableOf (now (a .kinds)) (now (a .xs)) (now (a .ys)) (now (a .roots))) (a .words) (sym (c .before .before .before .sizes-right .ensures) ∙ not-false _ (c .before .before .if1 .left)) (c .before .if2 .left)
+    c .judge .ensures ∙ whole-matrix ours (tableOf (now (a .kinds)) (now (a .xs)) (now (a .ys)) (now (a .roots))) (a .words) (sym (c .before .before .before .sizes-right .ensures) ∙ not-false _ (c .before .before .if1 .left)) (c .before .if2 .left)
 
 pub judge-with-spec : {M : Type 1} → statement M
 judge-with-spec =

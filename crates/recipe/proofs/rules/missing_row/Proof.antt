@@ -5,7 +5,7 @@ use lib.ListN.{length, getD}
 use native.Mathlib.Omega.{arith}
 use borrow.Author.Tests.{le-leb, lt-leb}
 use Rattle.recipe.specs.Rules.{rootMissing}
-use Rattle.recipe.proofs.Lowest.{Passed, passed-none, passed-more, passed-found, passed-all}
+use Rattle.numbers.proofs.LowestLaws.{Passed, passed-none, passed-more, passed-found, passed-all}
 use Rattle.recipe.proofs.rules.missing_row.Statement.{statement}
 use Rattle.recipe.proofs.rules.missing_row.Tie as tie
 

@@ -5,7 +5,7 @@ use lib.ListN.{length, getD}
 use native.Mathlib.Omega.{arith}
 use borrow.Author.Tests.{lt-ltb, le-ltb}
 use Rattle.recipe.specs.Rules.{kindUnknown}
-use Rattle.recipe.proofs.Lowest.{Passed, passed-none, passed-more, passed-found, passed-all}
+use Rattle.numbers.proofs.LowestLaws.{Passed, passed-none, passed-more, passed-found, passed-all}
 use Rattle.recipe.proofs.rules.unknown_kind.Statement.{statement}
 use Rattle.recipe.proofs.rules.unknown_kind.Tie as tie
 

@@ -5,14 +5,15 @@ use mathlib.Core.Path.{ap, sym, _∙_}
 use mathlib.Core.Bool.{not}
 use lib.ListN.{length}
 use native.Mathlib.Omega.{arith}
+use Rattle.numbers.specs.Sizes.{ours}
 use Rattle.recipe.specs.Tables.{tableOf}
 use Rattle.recipe.specs.Rules.{operandWrong}
-use Rattle.recipe.proofs.Lowest.{Passed, passed-none, passed-more, passed-found, passed-all}
+use Rattle.numbers.proofs.LowestLaws.{Passed, passed-none, passed-more, passed-found, passed-all}
 use Rattle.recipe.proofs.rules.wrong_operand.Statement.{statement}
 use Rattle.recipe.proofs.rules.wrong_operand.Tie as tie
 
 abbrev Inv-loop : tie.InvT-loop
-Inv-loop kinds xs ys roots i₀ i = Passed (length kinds) (operandWrong (tableOf kinds xs ys roots)) i
+Inv-loop kinds xs ys roots i₀ i = Passed (length kinds) (operandWrong ours (tableOf kinds xs ys roots)) i
 
 abbrev μ-loop : tie.MeasureT-loop
 μ-loop kinds xs ys roots i₀ i = length kinds - i

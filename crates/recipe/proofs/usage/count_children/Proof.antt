@@ -6,11 +6,11 @@ use mathlib.Core.Path.{_≡_, sym}
 use lib.ListN.{length}
 use denote.Ref.{now}
 use native.Mathlib.Omega.{arith}
-use Rattle.labels.specs.Words.{sumBelow}
+use Rattle.numbers.specs.General.{sumBelow}
 use Rattle.recipe.specs.Tables.{tableOf}
 use Rattle.recipe.specs.Rules.{childUses}
-use Rattle.recipe.specs.Counting.{Counts}
-use Rattle.recipe.proofs.Sums.{sum-next}
+use Rattle.recipe.specs.Inner.{Counts}
+use Rattle.numbers.proofs.SumLaws.{sum-next}
 use Rattle.recipe.proofs.Counters.{counts-same}
 use Rattle.recipe.proofs.usage.count_children.Statement.{statement}
 use Rattle.recipe.proofs.usage.count_children.Tie as tie

@@ -7,11 +7,11 @@ use lib.ListN.{length}
 use denote.Ref.{now}
 use native.Mathlib.Nat.{add-zero, add-assoc}
 use native.Mathlib.Omega.{arith}
-use Rattle.labels.specs.Words.{sumBelow}
+use Rattle.numbers.specs.General.{sumBelow}
 use Rattle.recipe.specs.Tables.{tableOf}
 use Rattle.recipe.specs.Rules.{rootUses}
-use Rattle.recipe.specs.Counting.{Counts}
-use Rattle.recipe.proofs.Sums.{sum-next}
+use Rattle.recipe.specs.Inner.{Counts}
+use Rattle.numbers.proofs.SumLaws.{sum-next}
 use Rattle.recipe.proofs.Counters.{counts-same}
 use Rattle.recipe.proofs.usage.count_roots.Statement.{statement}
 use Rattle.recipe.proofs.usage.count_roots.Tie as tie

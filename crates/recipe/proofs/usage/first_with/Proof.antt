@@ -5,7 +5,7 @@ use lib.Dec.{eqb}
 use lib.ListN.{getD}
 use native.Mathlib.Omega.{arith}
 use borrow.Author.Tests.{eq-eqb, ne-eqb}
-use Rattle.recipe.proofs.Lowest.{Passed, passed-none, passed-more, passed-found, passed-all}
+use Rattle.numbers.proofs.LowestLaws.{Passed, passed-none, passed-more, passed-found, passed-all}
 use Rattle.recipe.proofs.usage.first_with.Statement.{statement}
 use Rattle.recipe.proofs.usage.first_with.Tie as tie
 
