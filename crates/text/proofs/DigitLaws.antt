@@ -1,28 +1,21 @@
 -- Which bytes are digits: those from the byte of 0 to the byte of 9, by the two tests of the definition.
 -- Assumes nothing.
-use mathlib.Core.Path.{_≡_, refl, sym, _∙_}
-use mathlib.Core.Bool.{Bool, true, false, false≢true}
+use mathlib.Core.Path.{_≡_, refl, _∙_}
+use mathlib.Core.Bool.{Bool, true, false, _&&_, false≢true}
 use Prim.Native.Nat.{ℕ, _≤_, _<_}
 use native.Mathlib.Omega.{arith}
 use lib.Dec.{leb}
 use borrow.Author.Tests.{leb-true, le-leb, lt-leb}
 use Rattle.text.specs.Bytes.{digit, isDigit, tab, newline}
 
-both : Bool → Bool → Bool
-both s t = elim s [ true ↦ t | false ↦ false ]
-
-both-true : (s t : Bool) → both s t ≡ true → (s ≡ true) × (t ≡ true)
-unfolding both
+both-true : (s t : Bool) → s && t ≡ true → (s ≡ true) × (t ≡ true)
 both-true true t e = (refl, e)
 both-true false t e = absurd (false≢true e)
 
-tests : (b : ℕ) → isDigit b ≡ both (leb (digit 0) b) (leb b (digit 9))
-unfolding isDigit both
-tests b = refl
-
 pub digit-bounds : (b : ℕ) → isDigit b ≡ true → (digit 0 ≤ b) × (b ≤ digit 9)
+unfolding isDigit
 digit-bounds b e =
-    let p = both-true (leb (digit 0) b) (leb b (digit 9)) (sym (tests b) ∙ e) in
+    let p = both-true (leb (digit 0) b) (leb b (digit 9)) e in
     (leb-true (digit 0) b (p .0), leb-true b (digit 9) (p .1))
 
 pub from-zero : (b : ℕ) → digit 0 ≤ b → isDigit b ≡ leb b (digit 9)

@@ -5,9 +5,10 @@ use mathlib.Core.Bool.{true}
 use mathlib.Core.List.{List, [], _∷_, _++_, List·Memᴰ, List·Memᴰ·append-cases, List·Memᴰ·eq-of-singleton}
 use mathlib.Core.Logic.{⊎-elim}
 use Prim.Native.Nat.{ℕ, zero, suc, _+_, _-_, _*_, _/_, _%_, _^_, _≤_, _<_}
-use native.Mathlib.Nat.{not-suc-le-zero, le-refl, pow-suc}
+use native.Mathlib.Nat.{not-suc-le-zero, le-refl, lt-of-lt-of-le, pow-suc}
 use native.Mathlib.Decide.{decLt}
 use native.Mathlib.Omega.{arith}
+use lib.Dec.{lit≤}
 use lib.ListN.{length, length-append}
 use borrow.Author.Tests.{lt-ltb, le-ltb}
 use Rattle.text.specs.Bytes.{digit, isDigit}
@@ -103,6 +104,10 @@ spelled-short (suc most) n h =
 -- A number of at most four digits.
 pub spelled-four : (n : ℕ) → n < 10000 → length (spelled n) ≤ 4
 spelled-four n h = spelled-short 3 n h
+
+-- A number that the machine holds has at most twenty digits.
+pub digits-few : (n : ℕ) → n < 2 ^ 64 → length (spelled n) ≤ 20
+digits-few n h = spelled-short 19 n (lt-of-lt-of-le h (lit≤ tt))
 
 -- The number that digits say, behind one that was said before.
 said : ℕ → List ℕ → ℕ

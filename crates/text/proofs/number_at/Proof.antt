@@ -1,0 +1,72 @@
+-- `number_at` meets its contract: the first byte is a digit or there is no number, and the rest is `digits_at`'s.
+-- Assumes nothing.
+use borrow.Author.Needs.{needs}
+use mathlib.Core.Path.{_≡_, sym, _∙_}
+use mathlib.Core.Bool.{true}
+use denote.Ref.{now}
+use native.Mathlib.Omega.{arith}
+use lib.ListN.{getD}
+use borrow.Author.Tests.{not-true, not-false}
+use Rattle.text.specs.Bytes.{isDigit}
+use Rattle.text.proofs.DigitLaws.{digit-bounds}
+use Rattle.text.proofs.FieldLoops.{no-number, no-number-here, number-here, first-digit-short}
+use Rattle.text.specs.declared.Token.the-variants.{Missing}
+use Rattle.text.proofs.TokenLaws.{token-found, ahead-before}
+use Rattle.text.proofs.number_at.Statement.{statement}
+use Rattle.text.proofs.number_at.Tie as tie
+
+is-one :
+    (c : tie.Else2)
+    → isDigit (getD (now (c .before .before .before .before .before .args .bytes)) (c .before .before .before .before .before .args .at) 0) ≡ true
+is-one c = sym (c .before .is-digit .ensures) ∙ not-false _ (c .if2 .left)
+
+returns : tie.Need-returns
+returns c = token-found _ _ Missing (no-number _ _ _ (c .if1 .taken)) tt
+
+shared-slice-read-b : tie.Need-shared-slice-read-b
+shared-slice-read-b c = search needs
+
+is-digit-requires : tie.Need-is-digit-requires
+is-digit-requires c κs = search needs
+
+returns-2 : tie.Need-returns-2
+returns-2 c =
+    token-found _ _ Missing
+    (no-number-here _ _ _ (c .before .before .before .if1 .left) (sym (c .before .is-digit .ensures) ∙ not-true _ (c .if2 .taken))) tt
+
+add-digits-at : tie.Need-add-digits-at
+add-digits-at c = search needs
+
+digits-after-requires : tie.Need-digits-after-requires
+digits-after-requires c κs = search needs
+
+sub-digits-at : tie.Need-sub-digits-at
+sub-digits-at c = digit-bounds _ (is-one (c .before)) .0
+
+cast-digits-at : tie.Need-cast-digits-at
+cast-digits-at c = omega (arith, digit-bounds _ (is-one (c .before)))
+
+digits-at-requires : tie.Need-digits-at-requires
+digits-at-requires c κs = first-digit-short _ _ (is-one (c .before)) (c .digits-after .ensures)
+
+returns-3 : tie.Need-returns-3
+returns-3 c =
+    let a = c .before .before .before .before .before .before .before .args in
+    let h = c .before .before .before .before .before .if1 .left in
+    token-found (now (a .bytes)) (a .at) (c .digits-at .result) (c .digits-at .ensures .0 ∙ number-here _ _ _ h (is-one (c .before .before)) (c .before .digits-after .ensures))
+    (ahead-before (now (a .bytes)) (a .at) (c .digits-at .result) h (c .digits-at .ensures .1))
+
+pub number-at-spec : {M : Type 1} → statement M
+number-at-spec =
+    tie.close
+    (tie.spec
+    returns
+    shared-slice-read-b
+    is-digit-requires
+    returns-2
+    add-digits-at
+    digits-after-requires
+    sub-digits-at
+    cast-digits-at
+    digits-at-requires
+    returns-3)

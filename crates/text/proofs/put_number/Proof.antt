@@ -1,0 +1,21 @@
+-- `put_number` meets its contract: the digits are written, and the byte that ends the field behind them.
+-- Assumes nothing.
+use Rattle.text.proofs.PutLaws.{put-behind}
+use borrow.Author.Needs.{needs}
+use Rattle.text.proofs.put_number.Statement.{statement}
+use Rattle.text.proofs.put_number.Tie as tie
+
+put-digits-requires : tie.Need-put-digits-requires
+put-digits-requires c κs = search needs
+
+put-byte-requires : tie.Need-put-byte-requires
+put-byte-requires c κs = search needs
+
+same-length : tie.Need-same-length
+same-length c = search needs
+
+returns : tie.Need-returns
+returns c = put-behind (c .before .before .before .before .before .before .put-digits .ensures) (c .before .before .put-byte .ensures)
+
+pub put-number-spec : {M : Type 1} → statement M
+put-number-spec = tie.close (tie.spec put-digits-requires put-byte-requires same-length returns)

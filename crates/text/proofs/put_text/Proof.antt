@@ -1,0 +1,21 @@
+-- `put_text` meets its contract: the keyword is written, and the byte that ends the field behind it.
+-- Assumes nothing.
+use Rattle.text.proofs.PutLaws.{put-behind}
+use borrow.Author.Needs.{needs}
+use Rattle.text.proofs.put_text.Statement.{statement}
+use Rattle.text.proofs.put_text.Tie as tie
+
+put-bytes-requires : tie.Need-put-bytes-requires
+put-bytes-requires c κs = search needs
+
+put-byte-requires : tie.Need-put-byte-requires
+put-byte-requires c κs = search needs
+
+same-length : tie.Need-same-length
+same-length c = search needs
+
+returns : tie.Need-returns
+returns c = put-behind (c .before .before .before .before .before .before .put-bytes .ensures) (c .before .before .put-byte .ensures)
+
+pub put-text-spec : {M : Type 1} → statement M
+put-text-spec = tie.close (tie.spec put-bytes-requires put-byte-requires same-length returns)
