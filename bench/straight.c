@@ -306,18 +306,18 @@ static int take_number(struct reader *in, char end, uint16_t *number)
     return 1;
 }
 
-/* Goes past a kind's word and its tab. */
+/* Goes past a kind's keyword and its tab. */
 static int take_kind(struct reader *in, uint8_t *kind)
 {
     static const struct {
-        const char *word;
+        const char *keyword;
         size_t length;
-    } words[] = {
+    } keywords[] = {
         {"skip\t", 5}, {"step\t", 5}, {"seq\t", 4}, {"loop\t", 5}, {"async\t", 6}, {"finish\t", 7}, {"call\t", 5},
     };
 
     for (size_t k = 0; k <= CALL; k++) {
-        if (take_text(in, words[k].word, words[k].length)) {
+        if (take_text(in, keywords[k].keyword, keywords[k].length)) {
             *kind = (uint8_t)k;
             return 1;
         }

@@ -282,7 +282,7 @@ fn parsed_number(bytes: &[u8], at: &mut usize, end: u8) -> Option<u16> {
 }
 
 fn parsed_kind(bytes: &[u8], at: &mut usize) -> Option<u8> {
-    const WORDS: [&[u8]; 7] = [
+    const KEYWORDS: [&[u8]; 7] = [
         b"skip\t",
         b"step\t",
         b"seq\t",
@@ -291,9 +291,9 @@ fn parsed_kind(bytes: &[u8], at: &mut usize) -> Option<u8> {
         b"finish\t",
         b"call\t",
     ];
-    for (k, word) in WORDS.iter().enumerate() {
-        if bytes[*at..].starts_with(word) {
-            *at += word.len();
+    for (k, keyword) in KEYWORDS.iter().enumerate() {
+        if bytes[*at..].starts_with(keyword) {
+            *at += keyword.len();
             return Some(k as u8);
         }
     }

@@ -1,4 +1,4 @@
-//! Who calls whom, and the word on the listing's first line.
+//! Who calls whom, and the verdict on the listing's first line.
 
 use crate::table::Table;
 

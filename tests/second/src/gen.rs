@@ -2,7 +2,7 @@
 
 use crate::dice::Dice;
 use crate::samples;
-use crate::sheet::{spell, WORDS};
+use crate::sheet::{spell, KEYWORDS};
 use crate::table::Table;
 use crate::{PROCEDURES, ROWS, SHEET_BYTES};
 
@@ -555,13 +555,13 @@ fn scratch(dice: &mut Dice, bytes: &mut Vec<u8>) {
             }
         }
         16 => {
-            // Another word.
+            // Another keyword.
             let mut all = lines(bytes);
             let a = dice.below(all.len());
             let fields: Vec<&[u8]> = all[a].split(|&b| b == b'\t').collect();
             if fields.len() == 4 {
-                let word = dice.one_of(&WORDS).as_bytes();
-                let new = [fields[0], word, fields[2], fields[3]].join(&b'\t');
+                let keyword = dice.one_of(&KEYWORDS).as_bytes();
+                let new = [fields[0], keyword, fields[2], fields[3]].join(&b'\t');
                 all[a] = new;
             }
             *bytes = all.concat();

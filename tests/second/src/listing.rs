@@ -5,8 +5,8 @@ use crate::table::Refusal;
 
 pub fn text(pairs: &Pairs, rounds: usize, wide: bool) -> Vec<u8> {
     let listed = pairs.listed();
-    let word = if wide { "wide" } else { "exact" };
-    let mut text = format!("pairs\t{}\trounds\t{rounds}\t{word}\n", listed.len());
+    let verdict = if wide { "wide" } else { "exact" };
+    let mut text = format!("pairs\t{}\trounds\t{rounds}\t{verdict}\n", listed.len());
     for (i, j) in listed {
         text.push_str(&format!("{i}\t{j}\n"));
     }

@@ -3,7 +3,7 @@
 use crate::table::{refusal, Refusal, Table};
 use crate::SHEET_BYTES;
 
-pub const WORDS: [&str; 7] = ["skip", "step", "seq", "loop", "async", "finish", "call"];
+pub const KEYWORDS: [&str; 7] = ["skip", "step", "seq", "loop", "async", "finish", "call"];
 
 enum Line {
     Row(u8, u16, u16),
@@ -23,8 +23,8 @@ fn number(field: &[u8]) -> Option<u16> {
 fn line(bytes: &[u8]) -> Option<Line> {
     let fields: Vec<&[u8]> = bytes.split(|&b| b == b'\t').collect();
     match fields[..] {
-        [b"R", word, x, y] => {
-            let kind = WORDS.iter().position(|w| w.as_bytes() == word)?;
+        [b"R", keyword, x, y] => {
+            let kind = KEYWORDS.iter().position(|k| k.as_bytes() == keyword)?;
             Some(Line::Row(kind as u8, number(x)?, number(y)?))
         }
         [b"P", root] => Some(Line::Procedure(number(root)?)),
@@ -61,14 +61,14 @@ pub fn read(bytes: &[u8], rows: usize, procedures: usize) -> Result<Table, Refus
     Ok(table)
 }
 
-/// The sheet of a table. A kind without a word is written as `none`, and a
+/// The sheet of a table. A kind without a keyword is written as `none`, and a
 /// number above 9,999 as it is; neither is read back.
 pub fn spell(table: &Table) -> Vec<u8> {
     let mut text = String::new();
     for row in 0..table.kinds.len() {
-        let word = WORDS.get(table.kinds[row] as usize).unwrap_or(&"none");
+        let keyword = KEYWORDS.get(table.kinds[row] as usize).unwrap_or(&"none");
         text.push_str(&format!(
-            "R\t{word}\t{}\t{}\n",
+            "R\t{keyword}\t{}\t{}\n",
             table.xs[row], table.ys[row]
         ));
     }

@@ -4,75 +4,33 @@
 
 mod common;
 
-use common::{note_if_no_library, report_program, run, versions};
-use second::dice::Dice;
+use common::{note_if_no_library, on_all, prints, reads, report_program};
 use second::samples::*;
-use second::table::{judge, Table};
-use second::{compare, printed, sheet, work_out, LABELS, LISTING_BYTES, PROCEDURES, ROWS};
+use second::table::Table;
+use second::{compare, sheet, work_out, LABELS, LISTING_BYTES, PROCEDURES, ROWS};
+use std::panic::Location;
 
-/// The pairs, rounds and word of an admitted table, checked in every version at hand.
-fn holds(table: &Table, pairs: &[(usize, usize)], rounds: usize, word: &str) {
-    judge(table, LABELS).expect("an admitted table");
-    let answer = work_out(table);
-    let mut text = format!("pairs\t{}\trounds\t{rounds}\t{word}\n", pairs.len());
-    let mut matrix = [0u64; LABELS];
-    for &(i, j) in pairs {
-        text.push_str(&format!("{i}\t{j}\n"));
-        matrix[i] |= 1 << j;
-        matrix[j] |= 1 << i;
-    }
-    assert_eq!(String::from_utf8_lossy(&answer.listing), text);
-    assert_eq!(answer.matrix, matrix);
-    assert_eq!(answer.rounds, rounds);
-    assert_eq!(answer.wide, word == "wide");
+/// An admitted table, its sheet and what is printed for it.
+#[track_caller]
+fn holds(table: &Table, pairs: &[(usize, usize)], rounds: usize, verdict: &str) {
+    let name = Location::caller().to_string();
+    let due = common::holds(&name, table, pairs, rounds, verdict);
     let bytes = sheet::spell(table);
-    assert_eq!(sheet::read(&bytes, ROWS, PROCEDURES), Ok(table.clone()));
-    assert_eq!(printed(&bytes), text.as_bytes());
-    let dice = &mut Dice::new(3);
-    for (name, panel) in versions() {
-        let panel = panel.as_ref();
-        compare::reading(panel, dice, &bytes, [ROWS, ROWS, ROWS, PROCEDURES])
-            .and_then(|()| compare::analysing(panel, dice, table, Some(&answer), LABELS))
-            .and_then(|()| {
-                compare::listing(panel, dice, table, Some(&answer), LABELS, LISTING_BYTES)
-            })
-            .unwrap_or_else(|what| panic!("{name}: {what}"));
-    }
-    if let Ok(path) = std::env::var("BUSHKALOTE_REPORT") {
-        if !path.is_empty() {
-            assert_eq!(
-                run(path.as_ref(), &bytes),
-                text.as_bytes(),
-                "the report program"
-            );
-        }
-    }
+    reads(
+        &name,
+        &bytes,
+        [ROWS, ROWS, ROWS, PROCEDURES],
+        Ok(table.clone()),
+    );
+    prints(&name, &bytes, &String::from_utf8_lossy(&due.listing));
 }
 
-/// The refusal of a table, and the one of its sheet by the program.
-fn refused(table: &Table, number: u32, place: u32, printed_line: &str) {
-    let refusal = judge(table, LABELS).expect_err("a refused table");
-    assert_eq!((refusal.number, refusal.place), (number, place));
-    let bytes = sheet::spell(table);
-    assert_eq!(String::from_utf8_lossy(&printed(&bytes)), printed_line);
-    let dice = &mut Dice::new(4);
-    for (name, panel) in versions() {
-        compare::analysing(panel.as_ref(), dice, table, None, LABELS)
-            .and_then(|()| {
-                compare::listing(panel.as_ref(), dice, table, None, LABELS, LISTING_BYTES)
-            })
-            .and_then(|()| compare::sheet(panel.as_ref(), dice, &bytes))
-            .unwrap_or_else(|what| panic!("{name}: {what}"));
-    }
-    if let Ok(path) = std::env::var("BUSHKALOTE_REPORT") {
-        if !path.is_empty() {
-            assert_eq!(
-                run(path.as_ref(), &bytes),
-                printed_line.as_bytes(),
-                "the report program"
-            );
-        }
-    }
+/// A refused table, and what is printed for its sheet.
+#[track_caller]
+fn refused(table: &Table, number: u32, place: usize, line: &str) {
+    let name = Location::caller().to_string();
+    common::refused(&name, table, number, place);
+    prints(&name, &sheet::spell(table), line);
 }
 
 #[test]
@@ -169,14 +127,26 @@ fn the_largest_tables() {
     let flat = large_flat();
     assert_eq!((flat.rows(), flat.roots.len()), (ROWS, PROCEDURES));
     assert_eq!(work_out(&flat).rounds, 2);
-    for table in [large, flat] {
-        let dice = &mut Dice::new(5);
-        for (name, panel) in versions() {
-            compare::sheet(panel.as_ref(), dice, &sheet::spell(&table))
-                .and_then(|()| compare::table(panel.as_ref(), dice, &table))
-                .unwrap_or_else(|what| panic!("{name}: {what}"));
-        }
+    for (name, table) in [("large ring", large), ("flat", flat)] {
+        on_all(name, |panel, dice| {
+            compare::sheet(panel, dice, &sheet::spell(&table))?;
+            compare::table(panel, dice, &table)
+        });
     }
+    // Procedure f is 12 loops round async{f} and a call of the next one: every label meets every label.
+    let bodies: Vec<Statement> = (0..PROCEDURES)
+        .map(|f| {
+            let next = if f + 1 < PROCEDURES {
+                call(f + 1)
+            } else {
+                skip()
+            };
+            (0..12).fold(seq(spawned(step(f)), next), |body, _| looped(body))
+        })
+        .collect();
+    let full = recipe(&bodies);
+    assert_eq!((full.rows(), full.roots.len()), (ROWS, PROCEDURES));
+    holds(&full, &every_pair(), PROCEDURES, "exact");
 }
 
 #[test]
@@ -185,6 +155,12 @@ fn chains_as_deep_as_can_be() {
     holds(&nested(ROWS, |_, s| spawned(s)), &[], 1, "exact");
     holds(
         &nested(ROWS, |i, s| if i == 1 { spawned(s) } else { looped(s) }),
+        &[(0, 0)],
+        1,
+        "exact",
+    );
+    holds(
+        &nested(ROWS, |i, s| if i % 2 == 1 { spawned(s) } else { looped(s) }),
         &[(0, 0)],
         1,
         "exact",
@@ -227,16 +203,22 @@ fn sixty_four_procedures() {
     refused(&recipe(&line), 1, 0, "refused\t13\t132\n");
 }
 
+/// All pairs that there can be, in order.
+fn every_pair() -> Vec<(usize, usize)> {
+    (0..LABELS)
+        .flat_map(|i| (i..LABELS).map(move |j| (i, j)))
+        .collect()
+}
+
 #[test]
 fn all_the_pairs() {
-    let mut every = Vec::new();
-    for i in 0..LABELS {
-        for j in i..LABELS {
-            every.push((i, j));
-        }
-    }
+    let every = every_pair();
     assert_eq!(every.len(), 2080);
     holds(&recipe(&[all_together(LABELS)]), &every, 1, "exact");
+    assert_eq!(
+        work_out(&recipe(&[all_together(LABELS)])).listing.len(),
+        11_856
+    );
     // The longest listing: every pair after 64 rounds by the line of calls.
     let mut line: Vec<Statement> = (1..PROCEDURES).map(call).collect();
     line.push(all_together(LABELS));
@@ -255,7 +237,7 @@ fn pairs_of_a_procedure_that_main_never_reaches_stay_out() {
 }
 
 #[test]
-fn the_word_speaks_of_every_procedure() {
+fn the_verdict_speaks_of_every_procedure() {
     // Called by nobody, but in a ring: wide. Called twice without a ring: exact.
     holds(&recipe(&[skip(), call(2), call(1)]), &[], 0, "wide");
     holds(

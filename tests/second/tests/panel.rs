@@ -4,8 +4,8 @@
 
 mod common;
 
+use common::note_if_no_library;
 use common::straight::Straight;
-use common::{note_if_no_library, versions};
 use second::dice::Dice;
 use second::panel::Panel;
 use second::samples::*;
@@ -13,9 +13,7 @@ use second::table::{Row, Table};
 use second::{compare, sheet, work_out, LABELS, LISTING_BYTES, PROCEDURES, ROWS};
 
 fn on_all(check: impl Fn(&dyn Panel, &mut Dice) -> Result<(), String>) {
-    for (name, panel) in versions() {
-        check(panel.as_ref(), &mut Dice::new(8)).unwrap_or_else(|what| panic!("{name}: {what}"));
-    }
+    common::on_all("lent storage", check);
 }
 
 fn reply(number: u64, value: u64) -> u64 {
@@ -256,31 +254,6 @@ fn sizes_over_the_ceilings_are_refused_with_1() {
             table.kinds.fill(200);
             compare::analysing(panel, dice, &table, None, LABELS)?;
         }
-        Ok(())
-    });
-}
-
-#[test]
-fn the_lowest_place_is_named_and_kinds_go_before_operands() {
-    on_all(|panel, _| {
-        let mut matrix = [7u64; 64];
-        let mut ask = |kinds: &[u8], xs: &[u16], ys: &[u16], roots: &[u16]| {
-            let got = panel.analyse(kinds, xs, ys, roots, &mut matrix);
-            (got >> 32, got & 0xffff_ffff)
-        };
-        assert_eq!(ask(&[0, 7, 255, 0], &[9, 0, 0, 0], &[0; 4], &[9]), (3, 1));
-        assert_eq!(ask(&[0, 1, 1, 6], &[0, 64, 64, 5], &[0; 4], &[9]), (4, 1));
-        assert_eq!(ask(&[0, 0, 0, 0], &[0; 4], &[0, 0, 1, 1], &[9]), (4, 2));
-        assert_eq!(ask(&[0, 2], &[0, 0], &[0, 1], &[1]), (4, 1));
-        assert_eq!(ask(&[0, 2], &[0, 1], &[0, 0], &[1]), (4, 1));
-        assert_eq!(ask(&[3], &[0], &[0], &[0]), (4, 0));
-        assert_eq!(ask(&[6, 6], &[1, 2], &[0, 0], &[0, 1]), (4, 1));
-        assert_eq!(ask(&[1], &[65_535], &[0], &[0]), (4, 0));
-        assert_eq!(ask(&[0, 0], &[0, 0], &[0, 0], &[0, 2, 65_535]), (5, 1));
-        assert_eq!(ask(&[0, 0, 0], &[0; 3], &[0; 3], &[2, 1, 1, 2]), (6, 1));
-        assert_eq!(ask(&[0, 3, 3], &[0, 0, 0], &[0; 3], &[1, 1]), (6, 0));
-        assert_eq!(ask(&[0, 0, 0, 0], &[0; 4], &[0; 4], &[3, 0]), (7, 1));
-        assert_eq!(matrix, [7u64; 64]);
         Ok(())
     });
 }

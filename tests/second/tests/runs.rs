@@ -1,6 +1,6 @@
 //! Small recipes run by the steps (2) to (9): the pairs of labels that are
 //! enabled at two different places of a state met in a run. Every one must be
-//! marked, and where the word is `exact` every marked pair must be met.
+//! marked, and where the verdict is `exact` every marked pair must be met.
 //!
 //! Runs of loops and of self-calls have no end, so states above a size are
 //! left out and the search stops after so many states.

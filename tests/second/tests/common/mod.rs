@@ -4,7 +4,11 @@
 #[path = "../../../../bench/straight.rs"]
 pub mod straight;
 
+use second::dice::Dice;
 use second::panel::Panel;
+use second::table::{judge, refusal, Table};
+use second::{compare, printed, sheet, work_out, Answer};
+use second::{LABELS, LISTING_BYTES, PROCEDURES, ROWS};
 use std::io::Write;
 use std::path::PathBuf;
 
@@ -26,6 +30,97 @@ pub fn library() -> Option<(&'static str, Box<dyn Panel>)> {
     second::panel::library().map(|library| ("library", library))
 }
 
+thread_local! {
+    /// Those of this test, which runs in a thread of its own.
+    static VERSIONS: Vec<(&'static str, Box<dyn Panel>)> = versions();
+}
+
+/// Makes a check on every version at hand.
+pub fn on_all(name: &str, check: impl Fn(&dyn Panel, &mut Dice) -> Result<(), String>) {
+    VERSIONS.with(|all| {
+        for (version, panel) in all {
+            check(panel.as_ref(), &mut Dice::new(8))
+                .unwrap_or_else(|what| panic!("{name}, {version}: {what}"));
+        }
+    });
+}
+
+/// Holds all to the pairs, rounds and verdict of an admitted table: the second program, and the entries on slices and on
+/// records, with words and bytes to spare, just enough of them, one byte too few and one word too few.
+pub fn holds(
+    name: &str,
+    table: &Table,
+    pairs: &[(usize, usize)],
+    rounds: usize,
+    verdict: &str,
+) -> Answer {
+    let mut due = Answer {
+        matrix: [0; LABELS],
+        rounds,
+        wide: verdict == "wide",
+        listing: format!("pairs\t{}\trounds\t{rounds}\t{verdict}\n", pairs.len()).into_bytes(),
+    };
+    for &(i, j) in pairs {
+        due.listing.extend(format!("{i}\t{j}\n").bytes());
+        due.matrix[i] |= 1 << j;
+        due.matrix[j] |= 1 << i;
+    }
+    assert_eq!(judge(table, LABELS), Ok(()), "{name}");
+    let got = work_out(table);
+    let texts = [&got.listing, &due.listing].map(|text| String::from_utf8_lossy(text));
+    assert_eq!(texts[0], texts[1], "{name}");
+    assert_eq!(
+        (got.matrix, got.rounds, got.wide),
+        (due.matrix, due.rounds, due.wide),
+        "{name}"
+    );
+    let length = due.listing.len();
+    on_all(name, |panel, dice| {
+        compare::analysing(panel, dice, table, Some(&due), LABELS + 2)?;
+        for (words, room) in [
+            (LABELS + 2, LISTING_BYTES),
+            (LABELS, length),
+            (LABELS, length - 1),
+            (LABELS - 1, length),
+        ] {
+            compare::listing(panel, dice, table, Some(&due), words, room)?;
+        }
+        Ok(())
+    });
+    due
+}
+
+/// Holds all to the refusal of a table.
+pub fn refused(name: &str, table: &Table, number: u32, place: usize) {
+    let due = Err(refusal(number, place));
+    assert_eq!(judge(table, LABELS), due, "{name}");
+    on_all(name, |panel, dice| {
+        compare::analysing(panel, dice, table, None, LABELS)?;
+        compare::listing(panel, dice, table, None, LABELS, LISTING_BYTES)
+    });
+}
+
+/// Holds all to what reading a sheet gives, a table or a number and a place, where so many kinds, xs, ys and roots are lent.
+pub fn reads(name: &str, bytes: &[u8], room: [usize; 4], due: Result<Table, (u32, usize)>) {
+    let due = due.map_err(|(number, place)| refusal(number, place));
+    let rows = room[..3].iter().fold(ROWS, |least, &n| least.min(n));
+    let got = sheet::read(bytes, rows, room[3].min(PROCEDURES));
+    assert_eq!(got, due, "{name}");
+    on_all(name, |panel, dice| {
+        compare::reading(panel, dice, bytes, room)
+    });
+}
+
+/// Holds the second program and, where it is named, the report program to what is printed for a sheet.
+pub fn prints(name: &str, bytes: &[u8], line: &str) {
+    let same =
+        |by: &str, text: Vec<u8>| assert_eq!(String::from_utf8_lossy(&text), line, "{name}, {by}");
+    same("the second program", printed(bytes));
+    if let Some(program) = named_report() {
+        same("the report program", run(&program, bytes));
+    }
+}
+
 /// Says in a test that it could not run on the library.
 pub fn note_if_no_library(test: &str) {
     if library().is_none() {
@@ -36,24 +131,28 @@ pub fn note_if_no_library(test: &str) {
 }
 
 /// The built report program, if BUSHKALOTE_REPORT names it.
-pub fn report_program(test: &str) -> Option<PathBuf> {
-    match std::env::var("BUSHKALOTE_REPORT") {
-        Ok(path) if !path.is_empty() => {
-            let path = PathBuf::from(path);
-            assert!(
-                path.is_file(),
-                "BUSHKALOTE_REPORT: {} is not a file",
-                path.display()
-            );
-            Some(path)
-        }
-        _ => {
-            note(&format!(
-                "not run: {test} on the report program (BUSHKALOTE_REPORT, its path, is not set)"
-            ));
-            None
-        }
+fn named_report() -> Option<PathBuf> {
+    let path = std::env::var_os("BUSHKALOTE_REPORT").map(PathBuf::from)?;
+    if path.as_os_str().is_empty() {
+        return None;
     }
+    assert!(
+        path.is_file(),
+        "BUSHKALOTE_REPORT: {} is not a file",
+        path.display()
+    );
+    Some(path)
+}
+
+/// The same; says in a test that it could not run on it.
+pub fn report_program(test: &str) -> Option<PathBuf> {
+    let program = named_report();
+    if program.is_none() {
+        note(&format!(
+            "not run: {test} on the report program (BUSHKALOTE_REPORT, its path, is not set)"
+        ));
+    }
+    program
 }
 
 /// What a program prints for a sheet on its standard input.
