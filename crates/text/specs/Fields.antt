@@ -41,5 +41,5 @@ placed at s (holds n rest) = Found n (at + (length s - length rest))
 placed at s broken = Missing
 
 -- What is found by reading a field at this place of the bytes.
-abbrev pub tokenAt : (List ℕ → Field) → List ℕ → ℕ → Token
+unfoldable pub tokenAt : (List ℕ → Field) → List ℕ → ℕ → Token
 tokenAt read bytes at = placed at (drop at bytes) (read (drop at bytes))

@@ -21,7 +21,7 @@ is-one :
 is-one c = sym (c .before .is-digit .ensures) ∙ not-false _ (c .if2 .left)
 
 returns : tie.Need-returns
-returns c = token-found _ _ Missing (no-number _ _ _ (c .if1 .taken)) tt
+returns c = token-found _ _ _ Missing (no-number _ _ _ (c .if1 .taken)) tt
 
 shared-slice-read-b : tie.Need-shared-slice-read-b
 shared-slice-read-b c = search needs
@@ -31,7 +31,7 @@ is-digit-requires c κs = search needs
 
 returns-2 : tie.Need-returns-2
 returns-2 c =
-    token-found _ _ Missing
+    token-found _ _ _ Missing
     (no-number-here _ _ _ (c .before .before .before .if1 .left) (sym (c .before .is-digit .ensures) ∙ not-true _ (c .if2 .taken))) tt
 
 add-digits-at : tie.Need-add-digits-at
@@ -53,7 +53,7 @@ returns-3 : tie.Need-returns-3
 returns-3 c =
     let a = c .before .before .before .before .before .before .before .args in
     let h = c .before .before .before .before .before .if1 .left in
-    token-found (now (a .bytes)) (a .at) (c .digits-at .result) (c .digits-at .ensures .0 ∙ number-here _ _ _ h (is-one (c .before .before)) (c .before .digits-after .ensures))
+    token-found _ _ _ (c .digits-at .result) (c .digits-at .ensures .0 ∙ number-here _ _ _ h (is-one (c .before .before)) (c .before .digits-after .ensures))
     (ahead-before (now (a .bytes)) (a .at) (c .digits-at .result) h (c .digits-at .ensures .1))
 
 pub number-at-spec : {M : Type 1} → statement M

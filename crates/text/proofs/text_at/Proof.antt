@@ -22,7 +22,7 @@ loop-holds : tie.Need-loop-holds Inv-loop μ-loop
 loop-holds c = record { left = refl; reached = at-start (now (c .args .bytes)) (c .args .at) }
 
 returns : tie.Need-returns Inv-loop μ-loop
-returns c = token-found _ _ Missing (text-ends (c .before .before .loop .inv) (c .before .loop-test .taken) (c .if1 .taken)) tt
+returns c = token-found _ _ _ Missing (text-ends (c .before .before .loop .inv) (c .before .loop-test .taken) (c .if1 .taken)) tt
 
 shared-slice-read-if2 : tie.Need-shared-slice-read-if2 Inv-loop μ-loop
 shared-slice-read-if2 c = omega arith
@@ -31,7 +31,7 @@ shared-slice-read-if2-2 : tie.Need-shared-slice-read-if2-2 Inv-loop μ-loop
 shared-slice-read-if2-2 c = omega arith
 
 returns-2 : tie.Need-returns-2 Inv-loop μ-loop
-returns-2 c = token-found _ _ Missing (text-breaks (c .before .before .before .before .before .loop .inv) (omega arith) (omega arith) (c .if2 .taken)) tt
+returns-2 c = token-found _ _ _ Missing (text-breaks (c .before .before .before .before .before .loop .inv) (omega arith) (omega arith) (c .if2 .taken)) tt
 
 add-next : tie.Need-add-next Inv-loop μ-loop
 add-next c = omega arith
@@ -48,7 +48,7 @@ loop-again c = text-goes-on (c .before .before .before .before .before .loop .in
 returns-3 : tie.Need-returns-3 Inv-loop μ-loop
 returns-3 c =
     let l = c .before .loop in
-    token-found _ _ (Found _ (l .next)) (text-done (l .inv) (c .loop-test .left)) (l .inv .reached .ahead, l .inv .reached .within)
+    token-found _ _ _ (Found _ (l .next)) (text-done (l .inv) (c .loop-test .left)) (l .inv .reached .ahead, l .inv .reached .within)
 
 pub text-at-spec : {M : Type 1} → statement M
 text-at-spec =
