@@ -7,7 +7,8 @@ use Rattle.text.specs.Bytes.{isDigit}
 use Rattle.text.specs.Numbers.{spelledIn, spelled}
 use Rattle.recipe.specs.declared.Row.{Row}
 use Rattle.sheet.specs.Form.{spelledRow, spelledRoot, spell}
-use Rattle.sheet.specs.Lines.{textAt, kindFrom, digitsAt, digitsAfter, numberAt, rowAt, rootAt, lineAt}
+use Rattle.text.specs.Fields.{textAt, digitsAt, digitsAfter, numberAt}
+use Rattle.sheet.specs.Lines.{kindFrom, rowAt, rootAt, lineAt}
 use Rattle.sheet.specs.Reading.{table, wrongForm, noRoom, readRoots, readRows, readSheet}
 
 -- `R`, `step`, 5 and 0; then `P` and 0

@@ -1,5 +1,4 @@
 pub mod FieldLaws
-pub mod FieldLoops
 pub mod LineLaws
 pub mod FieldForms
 pub mod LineForms

@@ -9,8 +9,10 @@ use Rattle.text.specs.Bytes.{tab, newline}
 use Rattle.text.proofs.DigitLaws.{tab-no-digit, newline-no-digit}
 use Rattle.text.specs.Numbers.{spelled}
 use Rattle.sheet.specs.Form.{word, rowMark, rootMark, spelledRow, spelledRoot, Short, ShortRow}
-use Rattle.sheet.specs.Lines.{Field, holds, broken, textAt, kindAt, numberAt, noLine, rowLine, rootLine, wrongLine, rowAt, rootAt, lineAt}
-use Rattle.sheet.proofs.FieldForms.{text-read, kind-word, kind-small, kind-reads, number-read, number-reads}
+use Rattle.text.specs.Fields.{Field, holds, broken, textAt, numberAt}
+use Rattle.text.proofs.FieldForms.{text-read, number-read, number-reads}
+use Rattle.sheet.specs.Lines.{kindAt, noLine, rowLine, rootLine, wrongLine, rowAt, rootAt, lineAt}
+use Rattle.sheet.proofs.FieldForms.{kind-word, kind-small, kind-reads}
 use Rattle.sheet.proofs.LineLaws.{no-kind, no-x, no-y, row-read, no-root, root-read, row-marked, root-marked, unmarked}
 
 -- What follows the mark of a row line.

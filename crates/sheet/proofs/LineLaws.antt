@@ -7,7 +7,8 @@ use lib.ListN.{length, getD, drop, drop-of-length-le}
 use lib.Seq.{drop-cons}
 use Rattle.text.specs.Bytes.{tab, newline}
 use Rattle.sheet.specs.Form.{rowMark, rootMark}
-use Rattle.sheet.specs.Lines.{holds, broken, textAt, kindAt, numberAt, noLine, rowLine, rootLine, wrongLine, rowAt, rootAt, lineAt}
+use Rattle.text.specs.Fields.{holds, broken, textAt, numberAt}
+use Rattle.sheet.specs.Lines.{kindAt, noLine, rowLine, rootLine, wrongLine, rowAt, rootAt, lineAt}
 
 module _ (s : List ℕ) where
   pub no-kind : broken ≡ kindAt s → wrongLine ≡ rowAt s

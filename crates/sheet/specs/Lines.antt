@@ -1,27 +1,15 @@
--- What stands at the front of some bytes: a field, or a line. Each is read from the left, and goes together with the bytes after it.
-use mathlib.Core.Bool.{true, false}
+-- What stands at the front of some bytes: a kind, or a line. Each is read from the left, and goes together with the bytes after it.
 use mathlib.Core.List.{List, [], _∷_, _++_}
-use Prim.Native.Nat.{ℕ, zero, suc, _+_, _-_, _*_}
-use lib.Dec.{eqb}
+use Prim.Native.Nat.{ℕ, _+_}
 use Rattle.recipe.specs.declared.Row.{Row}
-use Rattle.text.specs.Bytes.{tab, newline, digit, isDigit}
+use Rattle.text.specs.Bytes.{tab, newline}
+use Rattle.text.specs.Fields.{Field, holds, broken, textAt, numberAt}
 use Rattle.sheet.specs.Form.{words, rowMark, rootMark}
-
--- A field: a number and the bytes after the field, or nothing of the right form.
-pub data Field : Type 0 where
-  holds : ℕ → List ℕ → Field
-  broken : Field
 
 -- The first of two fields that is of the right form.
 abbrev pub orElse : Field → Field → Field
 orElse (holds n s) other = holds n s
 orElse broken other = other
-
--- The number n where the bytes begin with this text.
-unfoldable pub textAt : List ℕ → ℕ → List ℕ → Field
-textAt [] n s = holds n s
-textAt (t ∷ text) n [] = broken
-textAt (t ∷ text) n (b ∷ s) = elim (eqb b t) [ true ↦ textAt text n s | false ↦ broken ]
 
 -- The kind whose word stands here before a tab, looked for among these words, the first being that of kind k.
 unfoldable pub kindFrom : ℕ → List (List ℕ) → List ℕ → Field
@@ -31,25 +19,6 @@ kindFrom k (w ∷ ws) s = orElse (textAt (w ++ (tab ∷ [])) k s) (kindFrom (k +
 -- The kind whose word stands here before a tab.
 abbrev pub kindAt : List ℕ → Field
 kindAt s = kindFrom 0 words s
-
--- The number that begins with the digits of n and goes on here, by at most so many digits, up to the byte `stop`.
-unfoldable pub digitsAt : ℕ → ℕ → ℕ → List ℕ → Field
-digitsAt stop more n [] = broken
-digitsAt stop zero n (b ∷ s) = elim (eqb b stop) [ true ↦ holds n s | false ↦ broken ]
-digitsAt stop (suc more) n (b ∷ s) =
-    elim (eqb b stop) [
-      | true ↦ holds n s
-      | false ↦ elim (isDigit b) [ true ↦ digitsAt stop more (10 * n + (b - digit 0)) s | false ↦ broken ]
-    ]
-
--- A number's first digit is followed by three at most, and a leading 0 by none.
-unfoldable pub digitsAfter : ℕ → ℕ
-digitsAfter b = elim (eqb b (digit 0)) [ true ↦ 0 | false ↦ 3 ]
-
--- The number that stands here up to the byte `stop`: one to four digits, no leading zero save 0 itself.
-unfoldable pub numberAt : ℕ → List ℕ → Field
-numberAt stop [] = broken
-numberAt stop (b ∷ s) = elim (isDigit b) [ true ↦ digitsAt stop (digitsAfter b) (b - digit 0) s | false ↦ broken ]
 
 -- A line: the end of the sheet, a row or a procedure's root with the bytes after its line, or a line of wrong form.
 pub data Line : Type 0 where

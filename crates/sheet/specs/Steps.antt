@@ -6,10 +6,8 @@ use Prim.Native.Nat.{ℕ, _+_}
 use lib.Dec.{ltb}
 use lib.ListN.{length, take, drop}
 use Rattle.numbers.specs.declared.Refusal.the-variants.{WrongForm, NoRoom}
-use Rattle.sheet.specs.Lines.{Field, holds, broken, Line, noLine, rowLine, rootLine, wrongLine}
+use Rattle.sheet.specs.Lines.{Line, noLine, rowLine, rootLine, wrongLine}
 use Rattle.sheet.specs.Reading.{Reading, rowsOf, rootsOf, replyOf}
-use Rattle.sheet.specs.declared.fields.Token.{Token}
-use Rattle.sheet.specs.declared.fields.Token.the-variants.{Found, Missing}
 use Rattle.sheet.specs.declared.lines.Entry.{Entry}
 use Rattle.sheet.specs.declared.lines.Entry.the-variants.{Row, Root, End, Wrong}
 use Rattle.sheet.specs.declared.lines.Step.{Step}
@@ -17,11 +15,6 @@ use Rattle.sheet.specs.declared.lines.Step.the-variants.{KeepRow, KeepRo
 use Rattle.sheet.specs.declared.lines.Held.{Held}
 use Rattle.sheet.specs.declared.Read.{Read}
 use Rattle.sheet.specs.declared.Read.the-variants.{Stored, Refused}
-
--- A token as the field that it stands for: the place after it as the bytes from there on.
-abbrev pub fieldOf : List ℕ → Token → Field
-fieldOf bytes (Found n next) = holds n (drop next bytes)
-fieldOf bytes Missing = broken
 
 -- An entry as the line that it stands for.
 abbrev pub lineOf : List ℕ → Entry → Line

@@ -7,10 +7,7 @@ ghost use Rattle.sheet.specs.Lines.{rowAt, rootAt, lineAt};
 ghost use Rattle.sheet.specs.Reading.{readSheet};
 ghost use Rattle.sheet.specs.Steps.{lineOf, stepOf, Holding};
 use crate::Read;
-use crate::fields::Token;
 use crate::fields::kind_at;
-use crate::fields::number_at;
-use crate::fields::text_at;
 use crate::least;
 use numbers::LineNumber;
 use numbers::ProcNumber;
@@ -18,6 +15,9 @@ use numbers::Refusal;
 use numbers::RowNumber;
 use numbers::SheetSize;
 use recipe::Row;
+use text::Token;
+use text::number_at;
+use text::text_at;
 
 // A line that was found, with the place after it: a row, a procedure's root, none, or one of wrong form.
 pub enum Entry {

@@ -1,6 +1,7 @@
 -- `kind_at` meets its contract: the words are tried one after the other, in the order of the kinds.
 -- Assumes nothing.
 use borrow.Author.Needs.{needs}
+use Rattle.text.proofs.TokenLaws.{text-field}
 use Rattle.sheet.proofs.FieldLaws.{kinds-in-order}
 use Rattle.sheet.proofs.fields.kind_at.Statement.{statement}
 use Rattle.sheet.proofs.fields.kind_at.Tie as tie
@@ -50,7 +51,7 @@ or-text-requires-6 c κs = search needs
 returns : tie.Need-returns
 returns c =
     kinds-in-order _ _ _ _ _ _ _ _
-    (c .before .before .before .before .before .before .before .before .before .before .before .before .text-at .ensures)
+    (text-field _ _ _ _ (c .before .before .before .before .before .before .before .before .before .before .before .before .text-at .ensures))
     (c .before .before .before .before .before .before .before .before .before .before .or-text .ensures)
     (c .before .before .before .before .before .before .before .before .or-text2 .ensures)
     (c .before .before .before .before .before .before .or-text3 .ensures)

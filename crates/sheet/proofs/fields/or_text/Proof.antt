@@ -1,6 +1,7 @@
 -- `or_text` meets its contract: a token that was found stays, and a missing one leaves the text to be tried.
 -- Assumes nothing.
 use borrow.Author.Needs.{needs}
+use Rattle.text.proofs.TokenLaws.{text-field}
 use Rattle.sheet.proofs.fields.or_text.Statement.{statement}
 use Rattle.sheet.proofs.fields.or_text.Tie as tie
 
@@ -17,7 +18,7 @@ returns : tie.Need-returns
 returns c = search needs
 
 returns-2 : tie.Need-returns-2
-returns-2 c = rw (c .before .enum-told2 .given .1) (c .text-at .ensures)
+returns-2 c = rw (c .before .enum-told2 .given .1) (text-field _ _ _ _ (c .text-at .ensures))
 
 pub or-text-spec : {M : Type 1} → statement M
 or-text-spec = tie.close (tie.spec enum-told enum-told-2 text-at-requires returns returns-2)

@@ -2,7 +2,7 @@
 -- Assumes nothing.
 use borrow.Author.Needs.{needs}
 use mathlib.Core.Path.{_∙_}
-use Rattle.sheet.proofs.FieldLaws.{told}
+use Rattle.text.proofs.TokenLaws.{text-field, told}
 use Rattle.sheet.proofs.LineLaws.{sheet-ends, begins-row, begins-root, begins-wrong}
 use Rattle.sheet.proofs.lines.line_at.Statement.{statement}
 use Rattle.sheet.proofs.lines.line_at.Tie as tie
@@ -25,7 +25,7 @@ row-at-requires c κs = search needs
 returns-2 : tie.Need-returns-2
 returns-2 c =
     c .row-at .ensures
-    ∙ begins-row _ _ (c .before .before .before .before .before .before .if1 .left) (told _ (c .before .before .next .given .1) (c .before .before .before .before .text-at .ensures))
+    ∙ begins-row _ _ (c .before .before .before .before .before .before .if1 .left) (told _ (c .before .before .next .given .1) (text-field _ _ _ _ (c .before .before .before .before .text-at .ensures)))
 
 enum-told : tie.Need-enum-told
 enum-told c = search needs
@@ -46,8 +46,8 @@ returns-3 : tie.Need-returns-3
 returns-3 c =
     c .root-at .ensures
     ∙ begins-root _ _ (c .before .before .before .before .before .before .before .before .before .before .if1 .left)
-    (told _ (c .before .before .before .before .before .before .enum-told .given .1) (c .before .before .before .before .before .before .before .before .text-at .ensures))
-    (told _ (c .before .before .next2 .given .1) (c .before .before .before .before .text-at2 .ensures))
+    (told _ (c .before .before .before .before .before .before .enum-told .given .1) (text-field _ _ _ _ (c .before .before .before .before .before .before .before .before .text-at .ensures)))
+    (told _ (c .before .before .next2 .given .1) (text-field _ _ _ _ (c .before .before .before .before .text-at2 .ensures)))
 
 enum-told-2 : tie.Need-enum-told-2
 enum-told-2 c = search needs
@@ -55,8 +55,8 @@ enum-told-2 c = search needs
 returns-4 : tie.Need-returns-4
 returns-4 c =
     begins-wrong _ _ (c .before .before .before .before .before .before .before .before .if1 .left)
-    (told _ (c .before .before .before .before .enum-told .given .1) (c .before .before .before .before .before .before .text-at .ensures))
-    (told _ (c .enum-told2 .given .1) (c .before .before .text-at2 .ensures))
+    (told _ (c .before .before .before .before .enum-told .given .1) (text-field _ _ _ _ (c .before .before .before .before .before .before .text-at .ensures)))
+    (told _ (c .enum-told2 .given .1) (text-field _ _ _ _ (c .before .before .text-at2 .ensures)))
 
 pub line-at-spec : {M : Type 1} → statement M
 line-at-spec =

@@ -2,7 +2,7 @@
 -- Assumes nothing.
 use borrow.Author.Needs.{needs}
 use native.Mathlib.Omega.{arith}
-use Rattle.sheet.proofs.FieldLaws.{told}
+use Rattle.text.proofs.TokenLaws.{number-field, told}
 use Rattle.sheet.proofs.FieldForms.{kind-small}
 use Rattle.sheet.proofs.LineLaws.{no-kind, no-x, no-y, row-read}
 use Rattle.sheet.proofs.lines.row_at.Statement.{statement}
@@ -32,7 +32,7 @@ enum-told-2 c = search needs
 returns-2 : tie.Need-returns-2
 returns-2 c =
     no-x _ _ _ (told _ (c .before .before .before .before .kind .given .1) (c .before .before .before .before .before .before .kind-at .ensures))
-    (told _ (c .enum-told2 .given .1) (c .before .before .number-at .ensures))
+    (told _ (c .enum-told2 .given .1) (number-field _ _ _ (c .before .before .number-at .ensures)))
 
 number-at-requires-2 : tie.Need-number-at-requires-2
 number-at-requires-2 c κs = search needs
@@ -46,8 +46,8 @@ enum-told-3 c = search needs
 returns-3 : tie.Need-returns-3
 returns-3 c =
     no-y _ _ _ (told _ (c .before .before .before .before .before .before .before .before .kind .given .1) (c .before .before .before .before .before .before .before .before .before .before .kind-at .ensures))
-    _ _ (told _ (c .before .before .before .before .x .given .1) (c .before .before .before .before .before .before .number-at .ensures))
-    (told _ (c .enum-told3 .given .1) (c .before .before .number-at2 .ensures))
+    _ _ (told _ (c .before .before .before .before .x .given .1) (number-field _ _ _ (c .before .before .before .before .before .before .number-at .ensures)))
+    (told _ (c .enum-told3 .given .1) (number-field _ _ _ (c .before .before .number-at2 .ensures)))
 
 cast-t12 : tie.Need-cast-t12
 cast-t12 c = omega (arith, kind-small _ (told _ (c .before .before .before .before .before .before .before .before .before .kind .given .1) (c .before .before .before .before .before .before .before .before .before .before .before .kind-at .ensures)))
@@ -55,8 +55,8 @@ cast-t12 c = omega (arith, kind-small _ (told _ (c .before .before .before .befo
 returns-4 : tie.Need-returns-4
 returns-4 c =
     row-read _ _ _ (told _ (c .before .before .before .before .before .before .before .before .before .kind .given .1) (c .before .before .before .before .before .before .before .before .before .before .before .kind-at .ensures))
-    _ _ (told _ (c .before .before .before .before .before .x .given .1) (c .before .before .before .before .before .before .before .number-at .ensures))
-    _ _ (told _ (c .before .y .given .1) (c .before .before .before .number-at2 .ensures))
+    _ _ (told _ (c .before .before .before .before .before .x .given .1) (number-field _ _ _ (c .before .before .before .before .before .before .before .number-at .ensures)))
+    _ _ (told _ (c .before .y .given .1) (number-field _ _ _ (c .before .before .before .number-at2 .ensures)))
 
 pub row-at-spec : {M : Type 1} → statement M
 row-at-spec =
