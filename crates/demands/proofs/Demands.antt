@@ -28,15 +28,15 @@ use Rattle.recipe.proofs.Lowest.{none-below, lowest-within, lowest-passes}
 use Rattle.recipe.proofs.Readings.{program-length, body-of-root}
 use Rattle.analysis.specs.Meaning.{meaning}
 use Rattle.analysis.specs.Rounds.{after, settled}
-use Rattle.word.specs.Reached.{wide}
+use Rattle.calls.specs.Reached.{wide}
 use Rattle.analysis.specs.Replies.{rounds, mainPairs}
-use Rattle.word.specs.Replies.{wordedAs, worded}
-use Rattle.word.specs.declared.Worded.the-variants as word
+use Rattle.calls.specs.Verdicts.{verdictAs, verdictOn}
+use Rattle.calls.specs.declared.Verdict.the-variants as verdict
 use Rattle.analysis.proofs.Meanings.{LabelsBelow}
 use Rattle.analysis.proofs.Shape.{shaped-after}
 use Rattle.demands.proofs.LeastSolution.{repeat-least}
 use Rattle.analysis.proofs.Bound.{settled-repeats, repeats-settled, final-settled}
-use Rattle.word.proofs.ReachedLaws.{exact-no-self-call}
+use Rattle.calls.proofs.ReachedLaws.{exact-no-self-call}
 use Rattle.analysis.proofs.LabelsInRange.{labels-in-range}
 
 -- the first round at which the test passes, and that it does where it passes at the bound

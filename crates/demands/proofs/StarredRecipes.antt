@@ -7,7 +7,7 @@ use Rattle.labels.specs.Sets.{member, single, joined}
 use Rattle.labels.specs.Matrix.{crossed}
 use Rattle.recipe.specs.Rules.{lowest}
 use Rattle.analysis.specs.Rounds.{after, every}
-use Rattle.word.specs.Reached.{calling, reached, someReaches}
+use Rattle.calls.specs.Reached.{calling, reached, someReaches}
 use Rattle.analysis.specs.Replies.{rounds}
 use Rattle.demands.specs.Starred.{matrixOf, saysTrue, allTrue, starred}
 

@@ -7,7 +7,7 @@ use Rattle.labels.specs.Words.{alike}
 use Rattle.labels.specs.Sets.{none, single}
 use Rattle.labels.specs.Matrix.{matrixWords, crossed}
 use Rattle.calculus.specs.Syntax.{Program, skip, step, seq, loop, async, finish, call}
-use Rattle.word.specs.Reached.{wide}
+use Rattle.calls.specs.Reached.{wide}
 use Rattle.analysis.specs.Replies.{rounds, mainPairs}
 
 -- Two labels that may run at the same time.

@@ -18,15 +18,15 @@ use Rattle.numbers.specs.declared.Refusal.the-variants.{LongListing}
 use Rattle.recipe.specs.declared.Judged.the-variants.{Admitted, Refused}
 use Rattle.recipe.proofs.Judging.{sizes-test}
 use Rattle.recipe.proofs.Admitted.{admitted-kept}
-use Rattle.word.specs.Reached.{wide}
+use Rattle.calls.specs.Reached.{wide}
 use Rattle.analysis.specs.Replies.{rounds, mainPairs, analysed, matrixAfter}
-use Rattle.word.specs.Replies.{worded}
+use Rattle.calls.specs.Verdicts.{verdictOn}
 use Rattle.analysis.specs.declared.Analysed.the-variants as analysis
-use Rattle.word.specs.declared.Worded.{Worded}
-use Rattle.word.specs.declared.Worded.the-variants as word
+use Rattle.calls.specs.declared.Verdict.{Verdict}
+use Rattle.calls.specs.declared.Verdict.the-variants as verdict
 use Rattle.recipe.proofs.WithMatrix.{whole-matrix}
 use Rattle.analysis.proofs.ReplyLaws.{admitted-reply}
-use Rattle.word.proofs.ReplyLaws.{admitted-word}
+use Rattle.calls.proofs.VerdictLaws.{admitted-verdict}
 use Rattle.listing.specs.Listing.{listing}
 use Rattle.listing.specs.Replies.{listingOf, fitted, listedAs, heldAfter, inFront, listed, matrixListed, bytesListed}
 use Rattle.listing.specs.declared.Listed.{Listed}

@@ -26,7 +26,7 @@ use Rattle.recipe.proofs.Lowest.{lowest-within}
 use Rattle.recipe.proofs.Readings.{program-length}
 use Rattle.recipe.proofs.Admitted.{sizes-right}
 use Rattle.analysis.specs.Rounds.{settled}
-use Rattle.word.specs.Reached.{wide}
+use Rattle.calls.specs.Reached.{wide}
 use Rattle.analysis.specs.Replies.{rounds, mainPairs, matrixAfter}
 use Rattle.recipe.proofs.WithMatrix.{admitted-with}
 use Rattle.listing.specs.Pairs.{Pair, pairAt, pairsOf, pairs}

@@ -10,7 +10,7 @@ use Rattle.recipe.specs.Tables.{Table}
 use Rattle.numbers.specs.declared.Refusal.the-variants.{LongListing}
 use Rattle.recipe.specs.declared.Judged.{Judged}
 use Rattle.recipe.specs.declared.Judged.the-variants.{Admitted, Refused}
-use Rattle.word.specs.Reached.{wide}
+use Rattle.calls.specs.Reached.{wide}
 use Rattle.analysis.specs.Replies.{rounds, mainPairs, matrixAfter}
 use Rattle.recipe.specs.Rules.{judgedWith}
 use Rattle.listing.specs.Listing.{listing}

@@ -7,7 +7,7 @@ ghost use Rattle.labels.specs.Matrix.{matrixWords, pairsAtOrAbove};
 ghost use Rattle.recipe.specs.Tables.{tableOf};
 ghost use Rattle.recipe.specs.Rules.{admitted};
 ghost use Rattle.recipe.specs.Statements.{programOf};
-ghost use Rattle.word.specs.Reached.{wide};
+ghost use Rattle.calls.specs.Reached.{wide};
 ghost use Rattle.analysis.specs.Replies.{mainPairs};
 ghost use Rattle.listing.specs.Listing.{listing};
 ghost use Rattle.listing.specs.Replies.{listingOf, fitted, heldAfter, inFront, listed, matrixListed, bytesListed};
@@ -20,7 +20,7 @@ use analysis::Analysed;
 use labels::Label;
 use numbers::Refusal;
 use recipe::Judged;
-use word::Worded;
+use calls::Verdict;
 
 // What listing the pairs replies: the listing's length in bytes, or the refusal.
 pub enum Listed {

@@ -4,17 +4,17 @@ use mathlib.Core.Path.{_≡_, refl, sym, _∙_}
 use Prim.Native.Nat.{_-_, _≤_}
 use native.Mathlib.Omega.{arith}
 use lib.ListN.{length}
-use Rattle.numbers.specs.Ceilings.{procCeiling}
+use Rattle.numbers.specs.Sizes.{ours}
 use Rattle.recipe.specs.Statements.{programOf}
 use Rattle.recipe.specs.Tables.{tableOf}
 use Rattle.recipe.proofs.Admitted.{sizes-right}
-use Rattle.word.specs.Storage.{Reaching}
-use Rattle.word.proofs.WordLaws.{through-more, reaching-as}
-use Rattle.word.proofs.reach.close.Statement.{statement}
-use Rattle.word.proofs.reach.close.Tie as tie
+use Rattle.calls.specs.Inner.{Reaching}
+use Rattle.calls.proofs.SetLaws.{through-more, reaching-as}
+use Rattle.calls.proofs.reach.close.Statement.{statement}
+use Rattle.calls.proofs.reach.close.Tie as tie
 
 abbrev Inv-loop : tie.InvT-loop
-Inv-loop reach₀ kinds xs ys roots n k₀ reach k = (k ≤ n) × (n ≡ length roots) × (length reach ≡ procCeiling) × Reaching reach (programOf (tableOf kinds xs ys roots)) n k
+Inv-loop reach₀ kinds xs ys roots n k₀ reach k = (k ≤ n) × (n ≡ length roots) × (length reach ≡ ours .procs) × Reaching reach (programOf (tableOf kinds xs ys roots)) n k
 
 abbrev μ-loop : tie.MeasureT-loop
 μ-loop reach₀ kinds xs ys roots n k₀ reach k = n - k
@@ -29,13 +29,13 @@ loop-holds c =
 
 through-requires : tie.Need-through-requires Inv-loop μ-loop
 through-requires c κs =
-    let few = sizes-right (tableOf _ _ _ _) (c .before .before .before .before .before .before .before .before .before .before .before .before .pre .0) .few-procs in
+    let few = sizes-right ours (tableOf _ _ _ _) (c .before .before .before .before .before .before .before .before .before .before .before .before .pre .0) .few-procs in
     let i = c .before .before .loop .inv in
     (omega (arith, i .2), (c .before .loop-test .taken, few))
 
 add-k : tie.Need-add-k Inv-loop μ-loop
 add-k c =
-    omega (arith, sizes-right (tableOf _ _ _ _) (c .before .before .before .before .before .before .before .before .before .before .before .before .before .before .before .pre .0) .few-procs, c .before .before .before .before .loop-test .taken)
+    omega (arith, sizes-right ours (tableOf _ _ _ _) (c .before .before .before .before .before .before .before .before .before .before .before .before .before .before .before .pre .0) .few-procs, c .before .before .before .before .loop-test .taken)
 
 loop-less : tie.Need-loop-less Inv-loop μ-loop
 loop-less c =
@@ -44,7 +44,7 @@ loop-less c =
 
 loop-again : tie.Need-loop-again Inv-loop μ-loop
 loop-again c =
-    let few = sizes-right (tableOf _ _ _ _) (c .before .before .before .before .before .before .before .before .before .before .before .before .before .before .before .pre .0) .few-procs in
+    let few = sizes-right ours (tableOf _ _ _ _) (c .before .before .before .before .before .before .before .before .before .before .before .before .before .before .before .pre .0) .few-procs in
     let l = c .before .before .before .before .before .loop in
     let h = c .before .before .before .before .loop-test .taken in
     let t = c .before .before .through in

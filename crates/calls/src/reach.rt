@@ -4,18 +4,18 @@ ghost use Prim.Native.Nat.{_<_, _≤_, _*_};
 ghost use lib.Bits.{bitOr};
 ghost use lib.ListN.{length, getD};
 ghost use Rattle.labels.specs.Words.{bit, changed};
-ghost use Rattle.numbers.specs.Ceilings.{procCeiling};
+ghost use Rattle.numbers.specs.Sizes.{ours};
 ghost use Rattle.recipe.specs.Rules.{admitted};
 ghost use Rattle.recipe.specs.Statements.{statementAt, programOf};
 ghost use Rattle.recipe.specs.Tables.{tableOf};
-ghost use Rattle.word.specs.Reached.{calling, wide};
-ghost use Rattle.recipe.specs.Alone.{rowsAlone, OfAdmitted};
-ghost use Rattle.word.specs.Storage.{BitsAre, Reaching};
+ghost use Rattle.calls.specs.Reached.{calling, wide};
+ghost use Rattle.recipe.specs.Inner.{rowsAlone, OfAdmitted};
+ghost use Rattle.calls.specs.Inner.{BitsAre, Reaching};
 use numbers::ProcNumber;
 
 // The procedures that a row's statement calls.
 fn row_calls(kinds: &[u8], xs: &[u16], ys: &[u16], row: usize) -> u64
-    requires { ⌜ OfAdmitted (now kinds) (now xs) (now ys) ⌝ }
+    requires { ⌜ OfAdmitted ours (now kinds) (now xs) (now ys) ⌝ }
     requires { ⌜ row < length (now kinds) ⌝ }
     ensures { λ r. ⌜ BitsAre r (calling (statementAt (rowsAlone (now (kinds .entry)) (now (xs .entry)) (now (ys .entry))) row)) ⌝ }
 {
@@ -36,8 +36,8 @@ fn row_calls(kinds: &[u8], xs: &[u16], ys: &[u16], row: usize) -> u64
 
 // The procedures that each procedure calls.
 fn direct_calls(reach: &mut [u64], kinds: &[u8], xs: &[u16], ys: &[u16], roots: &[u16])
-    requires { ⌜ admitted (tableOf (now kinds) (now xs) (now ys) (now roots)) ⌝ }
-    requires { ⌜ length (now reach) ≡ procCeiling ⌝ }
+    requires { ⌜ admitted ours (tableOf (now kinds) (now xs) (now ys) (now roots)) ⌝ }
+    requires { ⌜ length (now reach) ≡ ours .procs ⌝ }
     ensures { λ _. ⌜ Reaching (now (reach .exit)) (programOf (tableOf (now (kinds .entry)) (now (xs .entry)) (now (ys .entry)) (now (roots .entry)))) (length (now (roots .entry))) 0 ⌝ }
 {
     let mut f = 0;
@@ -51,7 +51,7 @@ fn direct_calls(reach: &mut [u64], kinds: &[u8], xs: &[u16], ys: &[u16], roots: 
 fn through(reach: &mut [u64], n: usize, k: usize)
     requires { ⌜ n ≤ length (now reach) ⌝ }
     requires { ⌜ k < n ⌝ }
-    requires { ⌜ n ≤ procCeiling ⌝ }
+    requires { ⌜ n ≤ ours .procs ⌝ }
     ensures { λ _. ⌜ now (reach .exit) ≡ changed n (λ f x. bitOr x (bit x k * getD (now (reach .entry)) k 0)) (now (reach .entry)) ⌝ }
 {
     let via = reach[k];
@@ -64,8 +64,8 @@ fn through(reach: &mut [u64], n: usize, k: usize)
 
 // Closes the calls: through every procedure, one after the other.
 fn close(reach: &mut [u64], kinds: &[u8], xs: &[u16], ys: &[u16], roots: &[u16])
-    requires { ⌜ admitted (tableOf (now kinds) (now xs) (now ys) (now roots)) ⌝ }
-    requires { ⌜ length (now reach) ≡ procCeiling ⌝ }
+    requires { ⌜ admitted ours (tableOf (now kinds) (now xs) (now ys) (now roots)) ⌝ }
+    requires { ⌜ length (now reach) ≡ ours .procs ⌝ }
     ensures { λ _. ⌜ Reaching (now (reach .exit)) (programOf (tableOf (now (kinds .entry)) (now (xs .entry)) (now (ys .entry)) (now (roots .entry)))) (length (now (roots .entry))) (length (now (roots .entry))) ⌝ }
 {
     direct_calls(reach, kinds, xs, ys, roots);
@@ -79,7 +79,7 @@ fn close(reach: &mut [u64], kinds: &[u8], xs: &[u16], ys: &[u16], roots: &[u16])
 
 // Whether any procedure of an admitted table, called or not, reaches itself.
 pub(crate) fn reaches_itself(kinds: &[u8], xs: &[u16], ys: &[u16], roots: &[u16]) -> bool
-    requires { ⌜ admitted (tableOf (now kinds) (now xs) (now ys) (now roots)) ⌝ }
+    requires { ⌜ admitted ours (tableOf (now kinds) (now xs) (now ys) (now roots)) ⌝ }
     ensures { λ r. ⌜ r ≡ wide (programOf (tableOf (now (kinds .entry)) (now (xs .entry)) (now (ys .entry)) (now (roots .entry)))) ⌝ }
 {
     let mut reach = [0u64; ProcNumber::CEILING];

@@ -11,7 +11,7 @@ use lib.ListN.{length, List·getD-eq-default}
 use borrow.Author.Tests.{eqb-true, eq-eqb}
 use Rattle.calculus.specs.Syntax.{Stmt, skip, step, seq, loop, async, finish, call, Program, body}
 use Rattle.calculus.specs.Calls.{CallsIn, Calls, Reaches, one, more, NoSelfCall}
-use Rattle.word.specs.Reached.{calling, reached, someReaches, wide}
+use Rattle.calls.specs.Reached.{calling, reached, someReaches, wide}
 
 either-true : (a b : Bool) → (a || b) ≡ true → (a ≡ true) ⊎ (b ≡ true)
 either-true true b e = inl refl

@@ -1,4 +1,4 @@
--- `row_calls` meets its contract: at each kind the children's calls give the row's (WordLaws), and the row number falls at each call.
+-- `row_calls` meets its contract: at each kind the children's calls give the row's (SetLaws), and the row number falls at each call.
 -- Assumes nothing.
 use mathlib.Core.Path.{_∙_}
 use borrow.Author.Needs.{needs}
@@ -6,17 +6,17 @@ use native.Mathlib.Nat.{one-mul}
 use native.Mathlib.Omega.{arith}
 use lib.Dec.{lit<}
 use lib.Pow.{shl-exact}
-use Rattle.labels.specs.Words.{wordBits}
+use Rattle.numbers.specs.Sizes.{wordBits}
 use Rattle.recipe.proofs.AloneLaws.{first-smaller, second-smaller, loop-smaller, async-smaller, finish-smaller, call-there, no-other, xs-there, ys-there}
-use Rattle.word.proofs.WordLaws.{skip-calls, step-calls, seq-calls, loop-calls, async-calls, finish-calls, call-calls}
+use Rattle.calls.proofs.SetLaws.{skip-calls, step-calls, seq-calls, loop-calls, async-calls, finish-calls, call-calls}
 use Prim.Native.Nat.{ℕ, _<_}
 use borrow.Fn.Kinds.{In}
 use borrow.Fn.PlainCycle.{Measures, is, falls, and}
-use Rattle.word.proofs.reach.row_calls.Reads as row-calls
-use Rattle.word.proofs.reach.row_calls.Kinds as row-calls-kinds
-use Rattle.word.proofs.reach.+row_calls.Lts-row_calls as row-calls-lts
-use Rattle.word.proofs.reach.+row_calls.{statement}
-use Rattle.word.proofs.reach.+row_calls.Tie.{close}
+use Rattle.calls.proofs.reach.row_calls.Reads as row-calls
+use Rattle.calls.proofs.reach.row_calls.Kinds as row-calls-kinds
+use Rattle.calls.proofs.reach.+row_calls.Lts-row_calls as row-calls-lts
+use Rattle.calls.proofs.reach.+row_calls.{statement}
+use Rattle.calls.proofs.reach.+row_calls.Tie.{close}
 
 abbrev μ-row-calls : Measures 3 row-calls-kinds.ps ℕ
 μ-row-calls κs a = a .1 .1 .1 .0

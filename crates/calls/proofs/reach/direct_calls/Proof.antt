@@ -5,13 +5,14 @@ use Prim.Native.Nat.{_-_, _≤_}
 use native.Mathlib.Omega.{arith}
 use denote.Ref.{now}
 use lib.ListN.{length, length-set}
+use Rattle.numbers.specs.Sizes.{ours}
 use Rattle.recipe.specs.Statements.{programOf}
 use Rattle.recipe.specs.Tables.{tableOf}
 use Rattle.recipe.proofs.Admitted.{sizes-right, root-row}
-use Rattle.word.specs.Storage.{Reaching}
-use Rattle.word.proofs.WordLaws.{direct-none, direct-more, root-calls, reaching-as}
-use Rattle.word.proofs.reach.direct_calls.Statement.{statement}
-use Rattle.word.proofs.reach.direct_calls.Tie as tie
+use Rattle.calls.specs.Inner.{Reaching}
+use Rattle.calls.proofs.SetLaws.{direct-none, direct-more, root-calls, reaching-as}
+use Rattle.calls.proofs.reach.direct_calls.Statement.{statement}
+use Rattle.calls.proofs.reach.direct_calls.Tie as tie
 
 abbrev Inv-loop : tie.InvT-loop
 Inv-loop reach₀ kinds xs ys roots f₀ reach f = (f ≤ length roots) × (length reach ≡ length reach₀) × Reaching reach (programOf (tableOf kinds xs ys roots)) f 0
@@ -25,7 +26,7 @@ loop-holds c =
 
 mul-row-calls : tie.Need-mul-row-calls Inv-loop μ-loop
 mul-row-calls c =
-    omega (arith, sizes-right (tableOf _ _ _ _) (c .before .before .before .before .before .before .before .pre .0) .few-procs, c .loop-test .taken)
+    omega (arith, sizes-right ours (tableOf _ _ _ _) (c .before .before .before .before .before .before .before .pre .0) .few-procs, c .loop-test .taken)
 
 shared-slice-read-row-calls : tie.Need-shared-slice-read-row-calls Inv-loop μ-loop
 shared-slice-read-row-calls c =
@@ -38,19 +39,19 @@ cast-row-calls c =
 row-calls-requires : tie.Need-row-calls-requires Inv-loop μ-loop
 row-calls-requires c κs =
     let s = c .before .before .before .before .before .before .before .before in
-    (record { roots = now (s .args .roots); ok = s .pre .0 }, root-row (tableOf _ _ _ _) (s .pre .0) _ (c .before .loop-test .taken))
+    (record { roots = now (s .args .roots); ok = s .pre .0 }, root-row ours (tableOf _ _ _ _) (s .pre .0) _ (c .before .loop-test .taken))
 
 mul-reach : tie.Need-mul-reach Inv-loop μ-loop
 mul-reach c =
-    omega (arith, sizes-right (tableOf _ _ _ _) (c .before .before .before .before .before .before .before .before .before .pre .0) .few-procs, c .before .before .loop-test .taken)
+    omega (arith, sizes-right ours (tableOf _ _ _ _) (c .before .before .before .before .before .before .before .before .before .pre .0) .few-procs, c .before .before .loop-test .taken)
 
 slice-write-reach : tie.Need-slice-write-reach Inv-loop μ-loop
 slice-write-reach c =
-    omega (arith, sizes-right (tableOf _ _ _ _) (c .before .before .before .before .before .before .before .before .before .pre .0) .few-procs, c .before .before .loop-test .taken, c .before .before .before .loop .inv .1, c .before .before .before .before .before .before .before .before .before .pre .1)
+    omega (arith, sizes-right ours (tableOf _ _ _ _) (c .before .before .before .before .before .before .before .before .before .pre .0) .few-procs, c .before .before .loop-test .taken, c .before .before .before .loop .inv .1, c .before .before .before .before .before .before .before .before .before .pre .1)
 
 add-f : tie.Need-add-f Inv-loop μ-loop
 add-f c =
-    omega (arith, sizes-right (tableOf _ _ _ _) (c .before .before .before .before .before .before .before .before .before .pre .0) .few-procs, c .before .before .loop-test .taken)
+    omega (arith, sizes-right ours (tableOf _ _ _ _) (c .before .before .before .before .before .before .before .before .before .pre .0) .few-procs, c .before .before .loop-test .taken)
 
 loop-less : tie.Need-loop-less Inv-loop μ-loop
 loop-less c =
@@ -64,7 +65,7 @@ loop-again c =
     let h = c .before .before .loop-test .taken in (
       omega arith,
       simp length-set (l .inv .1),
-      direct-more (l .f) (omega (arith, sizes-right (tableOf _ _ _ _) (c .before .before .before .before .before .before .before .before .before .pre .0) .few-procs, h, l .inv .1, s .pre .1)) (l .inv .2)
+      direct-more (l .f) (omega (arith, sizes-right ours (tableOf _ _ _ _) (c .before .before .before .before .before .before .before .before .before .pre .0) .few-procs, h, l .inv .1, s .pre .1)) (l .inv .2)
           (root-calls (now (s .args .kinds)) (now (s .args .xs)) (now (s .args .ys)) (now (s .args .roots)) (l .f) h (c .row-calls .ensures)),
     )
 

@@ -1,4 +1,4 @@
--- Which procedures reach which by calls, as a computation, and the word that follows from it.
+-- Which procedures reach which by calls, as a computation, and the verdict that follows from it.
 use mathlib.Core.Bool.{Bool, false, _&&_, _||_}
 use Prim.Native.Nat.{ℕ, zero, suc}
 use lib.Dec.{eqb}

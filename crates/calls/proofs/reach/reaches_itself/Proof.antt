@@ -5,16 +5,17 @@ use Prim.Native.Nat.{_≤_}
 use native.Mathlib.Omega.{arith}
 use denote.Ref.{now}
 use lib.ListN.{length}
+use Rattle.numbers.specs.Sizes.{ours}
 use Rattle.recipe.specs.Statements.{programOf}
 use Rattle.recipe.specs.Tables.{tableOf}
 use Rattle.recipe.proofs.Admitted.{sizes-right}
 use Rattle.recipe.proofs.Readings.{program-length}
 use Rattle.labels.specs.Words.{bit}
-use Rattle.word.specs.Reached.{wide, someReaches}
-use Rattle.word.specs.Storage.{Reaching}
-use Rattle.word.proofs.WordLaws.{one-found, none-found, some-none}
-use Rattle.word.proofs.reach.reaches_itself.Statement.{statement}
-use Rattle.word.proofs.reach.reaches_itself.Tie as tie
+use Rattle.calls.specs.Reached.{wide, someReaches}
+use Rattle.calls.specs.Inner.{Reaching}
+use Rattle.calls.proofs.SetLaws.{one-found, none-found, some-none}
+use Rattle.calls.proofs.reach.reaches_itself.Statement.{statement}
+use Rattle.calls.proofs.reach.reaches_itself.Tie as tie
 
 abbrev Inv-loop : tie.InvT-loop
 Inv-loop kinds xs ys roots reach f₀ f = (f ≤ length roots) × (wide (programOf (tableOf kinds xs ys roots)) ≡ someReaches (programOf (tableOf kinds xs ys roots)) f) × Reaching reach (programOf (tableOf kinds xs ys roots)) (length roots) (length roots)
@@ -41,22 +42,22 @@ sub-f c =
 
 mul-if1 : tie.Need-mul-if1 Inv-loop μ-loop
 mul-if1 c =
-    omega (arith, sizes-right (tableOf _ _ _ _) (c .before .before .before .before .before .before .before .before .before .pre) .few-procs, c .before .loop .inv .0, c .loop-test .taken)
+    omega (arith, sizes-right ours (tableOf _ _ _ _) (c .before .before .before .before .before .before .before .before .before .pre) .few-procs, c .before .loop .inv .0, c .loop-test .taken)
 
 array-read-if1 : tie.Need-array-read-if1 Inv-loop μ-loop
 array-read-if1 c =
-    omega (arith, sizes-right (tableOf _ _ _ _) (c .before .before .before .before .before .before .before .before .before .pre) .few-procs, c .before .loop .inv .0, c .loop-test .taken)
+    omega (arith, sizes-right ours (tableOf _ _ _ _) (c .before .before .before .before .before .before .before .before .before .pre) .few-procs, c .before .loop .inv .0, c .loop-test .taken)
 
 shr-if1 : tie.Need-shr-if1 Inv-loop μ-loop
 shr-if1 c =
-    omega (arith, sizes-right (tableOf _ _ _ _) (c .before .before .before .before .before .before .before .before .before .pre) .few-procs, c .before .loop .inv .0, c .loop-test .taken)
+    omega (arith, sizes-right ours (tableOf _ _ _ _) (c .before .before .before .before .before .before .before .before .before .pre) .few-procs, c .before .loop .inv .0, c .loop-test .taken)
 
 returns : tie.Need-returns Inv-loop μ-loop
 unfolding bit
 returns c =
     let a = c .before .before .before .before .before .before .before .before .before .before .args in
     let i = c .before .before .loop .inv in
-    sym (i .1 ∙ one-found _ (program-length (tableOf (now (a .kinds)) (now (a .xs)) (now (a .ys)) (now (a .roots)))) (sizes-right (tableOf _ _ _ _) (c .before .before .before .before .before .before .before .before .before .before .pre) .few-procs) (i .2) _ (c .before .loop-test .taken) (i .0) (c .if1 .taken))
+    sym (i .1 ∙ one-found _ (program-length (tableOf (now (a .kinds)) (now (a .xs)) (now (a .ys)) (now (a .roots)))) (sizes-right ours (tableOf _ _ _ _) (c .before .before .before .before .before .before .before .before .before .before .pre) .few-procs) (i .2) _ (c .before .loop-test .taken) (i .0) (c .if1 .taken))
 
 loop-less : tie.Need-loop-less Inv-loop μ-loop
 loop-less c =
@@ -68,7 +69,7 @@ unfolding bit
 loop-again c =
     let a = c .before .before .before .before .before .before .before .before .before .before .args in
     let i = c .before .before .loop .inv in
-    (omega (arith, i .0), i .1 ∙ none-found _ (program-length (tableOf (now (a .kinds)) (now (a .xs)) (now (a .ys)) (now (a .roots)))) (sizes-right (tableOf _ _ _ _) (c .before .before .before .before .before .before .before .before .before .before .pre) .few-procs) (i .2) _ (c .before .loop-test .taken) (i .0) (c .if1 .left), i .2)
+    (omega (arith, i .0), i .1 ∙ none-found _ (program-length (tableOf (now (a .kinds)) (now (a .xs)) (now (a .ys)) (now (a .roots)))) (sizes-right ours (tableOf _ _ _ _) (c .before .before .before .before .before .before .before .before .before .before .pre) .few-procs) (i .2) _ (c .before .loop-test .taken) (i .0) (c .if1 .left), i .2)
 
 returns-2 : tie.Need-returns-2 Inv-loop μ-loop
 returns-2 c =

@@ -2,16 +2,19 @@
 -- Assumes nothing.
 use mathlib.Core.Path.{_≡_, refl, ap}
 use Prim.Native.Nat.{ℕ, _-_, _*_, _<_, _^_}
-use native.Mathlib.Nat.{mod-lt}
+use native.Mathlib.Nat.{mod-lt, mul-le-mul-right, le-of-suc-le-suc, one-mul}
 use lib.Bits.{bitOr}
 use lib.Dec.{lit<}
 use lib.ListN.{getD}
-use Rattle.labels.specs.Words.{wordBits, bit}
-use Rattle.labels.proofs.MatrixLaws.{times-fits}
+use Rattle.numbers.specs.Sizes.{wordBits}
+use Rattle.labels.specs.Words.{bit}
 use Rattle.labels.proofs.InPlace.{Changing, begins, goes-on, ends}
 use native.Mathlib.Omega.{arith}
-use Rattle.word.proofs.reach.through.Statement.{statement}
-use Rattle.word.proofs.reach.through.Tie as tie
+use Rattle.calls.proofs.reach.through.Statement.{statement}
+use Rattle.calls.proofs.reach.through.Tie as tie
+
+times-fits : (t x : ℕ) → t < 2 → x < 2 ^ wordBits → t * x < 2 ^ wordBits
+times-fits t x ht hx = omega (arith, mul-le-mul-right x (le-of-suc-le-suc ht), one-mul x)
 
 abbrev Inv-loop : tie.InvT-loop
 Inv-loop reach₀ n k via f₀ reach f = (Changing n (λ g x. bitOr x (bit x k * getD reach₀ k 0)) reach₀ n reach f) × (via ≡ getD reach₀ k 0) × (via < 2 ^ wordBits)

@@ -10,17 +10,18 @@ use native.Mathlib.Omega.{arith}
 use lib.Bits.{bitOr}
 use lib.ListN.{length, getD, set}
 use lib.Seq.{getD-set-same, getD-set-other}
-use Rattle.labels.specs.Words.{bit, oneIf, changed}
+use Rattle.labels.specs.Words.{bit, changed}
+use Rattle.numbers.specs.General.{oneIf}
 use Rattle.labels.proofs.BitLaws.{bit-lt, bit-of-zero, bit-or, bit-times, bit-of-power}
 use Rattle.labels.proofs.ChangedLaws.{changed-below}
 use Rattle.calculus.specs.Syntax.{Stmt, skip, step, seq, loop, async, finish, call, Program, body}
-use Rattle.numbers.specs.Ceilings.{procCeiling}
+use Rattle.numbers.specs.Sizes.{ours}
 use Rattle.recipe.specs.Statements.{statementAt, programOf}
 use Rattle.recipe.specs.Tables.{tableOf}
 use Rattle.recipe.proofs.Readings.{body-of-root}
-use Rattle.word.specs.Reached.{calling, reached, someReaches}
-use Rattle.recipe.specs.Alone.{rowsAlone, OfAdmitted}
-use Rattle.word.specs.Storage.{BitsAre, Reaching}
+use Rattle.calls.specs.Reached.{calling, reached, someReaches}
+use Rattle.recipe.specs.Inner.{rowsAlone, OfAdmitted}
+use Rattle.calls.specs.Inner.{BitsAre, Reaching}
 use Rattle.recipe.proofs.AloneLaws.{same-statement, alone-skip, alone-step, alone-seq, alone-loop, alone-async, alone-finish, alone-call}
 
 max-or : (a b : Bool) → max (oneIf a) (oneIf b) ≡ oneIf (a || b)
@@ -35,7 +36,7 @@ min-and true false = refl
 min-and false true = refl
 min-and false false = refl
 
-module _ {kinds xs ys : List ℕ} (a : OfAdmitted kinds xs ys) (row : ℕ) (l : row < length kinds) where
+module _ {kinds xs ys : List ℕ} (a : OfAdmitted ours kinds xs ys) (row : ℕ) (l : row < length kinds) where
   abbrev at : ℕ → Stmt
   at = statementAt (rowsAlone kinds xs ys)
 
@@ -81,7 +82,7 @@ module _ {kinds xs ys : List ℕ} (a : OfAdmitted kinds xs ys) (row : ℕ) (l : 
 
 -- through procedure k besides
 pub through-more :
-    {reach reach' : List ℕ} {p : Program} (n k : ℕ) → k < n → n ≤ procCeiling → n ≤ length reach
+    {reach reach' : List ℕ} {p : Program} (n k : ℕ) → k < n → n ≤ ours .procs → n ≤ length reach
     → reach' ≡ changed n (λ f x. bitOr x (bit x k * getD reach k 0)) reach
     → Reaching reach p n k → Reaching reach' p n (k + 1)
 unfolding reached
@@ -91,7 +92,7 @@ through-more {reach} {reach'} {p} n k h few size e r =
     step : ℕ → ℕ → ℕ
     step f x = bitOr x (bit x k * getD reach k 0)
 
-    changed-bit : (f : ℕ) → f < n → (g : ℕ) → g < procCeiling → bit (getD (changed n step reach) f 0) g ≡ oneIf (reached p (k + 1) f g)
+    changed-bit : (f : ℕ) → f < n → (g : ℕ) → g < ours .procs → bit (getD (changed n step reach) f 0) g ≡ oneIf (reached p (k + 1) f g)
     changed-bit f l g m =
         ap (λ (z : ℕ). bit z g) (changed-below n step reach f l (omega arith))
         ∙ bit-or (getD reach f 0) (bit (getD reach f 0) k * getD reach k 0) g
@@ -109,7 +110,7 @@ unfolding reached
 direct-more {reach} {p} {w} f h r b =
     record { word = λ g l. record { bits = λ i m. either g l i m (ℕ-discrete g f) } }
   where
-    either : (g : ℕ) → g < f + 1 → (i : ℕ) → i < procCeiling → Dec (g ≡ f) → bit (getD (set reach f w) g 0) i ≡ oneIf (reached p zero g i)
+    either : (g : ℕ) → g < f + 1 → (i : ℕ) → i < ours .procs → Dec (g ≡ f) → bit (getD (set reach f w) g 0) i ≡ oneIf (reached p zero g i)
     either g l i m (yes e) =
         ap (λ (n : ℕ). bit (getD (set reach f w) n 0) i) e
         ∙ ap (λ (x : ℕ). bit x i) (getD-set-same reach f w 0 h)
@@ -151,7 +152,7 @@ or-false : (b : Bool) → b || false ≡ b
 or-false true = refl
 or-false false = refl
 
-module _ {reach : List ℕ} {p : Program} (n : ℕ) (size : length p ≡ n) (few : n ≤ procCeiling) (r : Reaching reach p n n) (i : ℕ) (h : 0 < i) (l : i ≤ n) where
+module _ {reach : List ℕ} {p : Program} (n : ℕ) (size : length p ≡ n) (few : n ≤ ours .procs) (r : Reaching reach p n n) (i : ℕ) (h : 0 < i) (l : i ≤ n) where
   own-bit : bit (getD reach (i - 1) 0) (i - 1) ≡ oneIf (reached p (length p) (i - 1) (i - 1))
   own-bit =
       r .word (i - 1) (omega arith) .bits (i - 1) (omega arith) ∙ ap (λ (k : ℕ). oneIf (reached p k (i - 1) (i - 1))) (sym size)

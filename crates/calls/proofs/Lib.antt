@@ -1,0 +1,4 @@
+pub mod ReachedLaws
+pub mod SetLaws
+pub mod VerdictLaws
+pub mod Unique

@@ -1,0 +1,33 @@
+// Calls: which procedures call and reach which, and the verdict on a recipe that follows from it.
+ghost use mathlib.Core.Path.{_≡_};
+ghost use Rattle.numbers.specs.Sizes.{ours};
+ghost use Rattle.recipe.specs.Tables.{tableOf};
+ghost use Rattle.calls.specs.Verdicts.{verdictOn};
+
+mod reach;
+
+use numbers::Refusal;
+use recipe::Judged;
+
+// Exact where no procedure, called or not, can reach itself by calls, wide where one can.
+pub enum Verdict {
+    Exact,
+    Wide,
+    Refused(Refusal),
+}
+
+// The verdict on a table.
+pub fn verdict_on(kinds: &[u8], xs: &[u16], ys: &[u16], roots: &[u16]) -> Verdict
+    ensures { λ r. let t = tableOf (now (kinds .entry)) (now (xs .entry)) (now (ys .entry)) (now (roots .entry)) in ⌜ r ≡ verdictOn ours t ⌝ }
+{
+    match recipe::judge(kinds, xs, ys, roots) {
+        Judged::Refused(r) => Verdict::Refused(r),
+        Judged::Admitted => {
+            if reach::reaches_itself(kinds, xs, ys, roots) {
+                Verdict::Wide
+            } else {
+                Verdict::Exact
+            }
+        }
+    }
+}

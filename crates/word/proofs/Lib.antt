@@ -1,4 +1,0 @@
-pub mod ReachedLaws
-pub mod WordLaws
-pub mod ReplyLaws
-pub mod Unique

@@ -1,3 +1,0 @@
-pub mod Reached
-pub mod Replies
-pub mod Storage
