@@ -17,10 +17,10 @@ mod fields;
 mod lines;
 
 use analysis::Analysed;
+use calls::Verdict;
 use labels::Label;
 use numbers::Refusal;
 use recipe::Judged;
-use calls::Verdict;
 
 // What listing the pairs replies: the listing's length in bytes, or the refusal.
 pub enum Listed {
