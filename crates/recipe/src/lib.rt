@@ -50,7 +50,8 @@ fn sizes_right(rows: usize, xs: usize, ys: usize, procs: usize) -> bool
 // Judges a table, given as the rows' kinds, their first and their second operands, and the procedures' roots. It reads each
 // row and each root a fixed number of times, and writes to nothing that is lent.
 pub fn judge(kinds: &[u8], xs: &[u16], ys: &[u16], roots: &[u16]) -> Judged
-    ensures { λ r. ⌜ r ≡ judged ours (tableOf (now (kinds .entry)) (now (xs .entry)) (now (ys .entry)) (now (roots .entry))) ⌝ }
+    ensures { λ r. let t = tableOf (now (kinds .entry)) (now (xs .entry)) (now (ys .entry)) (now (roots .entry)) in
+        ⌜ r ≡ judged ours t ⌝ }
 {
     let rows = kinds.len();
     let procs = roots.len();
@@ -58,34 +59,35 @@ pub fn judge(kinds: &[u8], xs: &[u16], ys: &[u16], roots: &[u16]) -> Judged
         return Judged::Refused(Refusal::Sizes);
     }
     let unknown = rules::unknown_kind(kinds);
-    if unknown < rows {
-        return Judged::Refused(Refusal::UnknownKind(RowNumber(unknown as u16)));
+    if (unknown.0 as usize) < rows {
+        return Judged::Refused(Refusal::UnknownKind(unknown));
     }
     let wrong = rules::wrong_operand(kinds, xs, ys, roots);
-    if wrong < rows {
-        return Judged::Refused(Refusal::WrongOperand(RowNumber(wrong as u16)));
+    if (wrong.0 as usize) < rows {
+        return Judged::Refused(Refusal::WrongOperand(wrong));
     }
     let missing = rules::missing_row(roots, rows);
-    if missing < procs {
-        return Judged::Refused(Refusal::NoSuchRow(ProcNumber(missing as u16)));
+    if (missing.0 as usize) < procs {
+        return Judged::Refused(Refusal::NoSuchRow(missing));
     }
     let mut counts = [0u8; RowNumber::CEILING];
     usage::count_children(&mut counts, kinds, xs, ys);
     usage::count_roots(&mut counts, roots);
     let again = usage::first_with(&counts, rows, 2);
-    if again < rows {
-        return Judged::Refused(Refusal::UsedAgain(RowNumber(again as u16)));
+    if (again.0 as usize) < rows {
+        return Judged::Refused(Refusal::UsedAgain(again));
     }
     let unused = usage::first_with(&counts, rows, 0);
-    if unused < rows {
-        return Judged::Refused(Refusal::Unused(RowNumber(unused as u16)));
+    if (unused.0 as usize) < rows {
+        return Judged::Refused(Refusal::Unused(unused));
     }
     Judged::Admitted
 }
 
 // Judges a table for whoever is lent a matrix of so many words: wrong sizes first, then a matrix that is too short, then the rest.
 pub fn judge_with(kinds: &[u8], xs: &[u16], ys: &[u16], roots: &[u16], words: usize) -> Judged
-    ensures { λ r. ⌜ r ≡ judgedWith ours (tableOf (now (kinds .entry)) (now (xs .entry)) (now (ys .entry)) (now (roots .entry))) words ⌝ }
+    ensures { λ r. let t = tableOf (now (kinds .entry)) (now (xs .entry)) (now (ys .entry)) (now (roots .entry)) in
+        ⌜ r ≡ judgedWith ours t words ⌝ }
 {
     if !sizes_right(kinds.len(), xs.len(), ys.len(), roots.len()) {
         return Judged::Refused(Refusal::Sizes);

@@ -24,35 +24,35 @@ returns-4 c = simp (c .before .match .keys2, le-ltb _ _ (c .if2 .left))
 
 returns-5 : tie.Need-returns-5
 unfolding operandsRight
-returns-5 c = simp (c .before .match .keys3, lt-ltb _ _ (c .if3 .taken))
+returns-5 c = simp (c .before .before .before .match .keys3, lt-ltb _ _ (c .before .if3 .taken))
 
 returns-6 : tie.Need-returns-6
 unfolding operandsRight
-returns-6 c = simp (c .before .match .keys3, le-ltb _ _ (c .if3 .left))
+returns-6 c = simp (c .before .before .match .keys3, le-ltb _ _ (c .if3 .left))
 
 returns-7 : tie.Need-returns-7
 unfolding operandsRight
-returns-7 c = simp (c .before .match .keys4, lt-ltb _ _ (c .if4 .taken))
+returns-7 c = simp (c .before .before .match .keys4, lt-ltb _ _ (c .if4 .taken))
 
 returns-8 : tie.Need-returns-8
 unfolding operandsRight
-returns-8 c = simp (c .before .match .keys4, le-ltb _ _ (c .if4 .left))
+returns-8 c = simp (c .before .before .match .keys4, le-ltb _ _ (c .if4 .left))
 
 returns-9 : tie.Need-returns-9
 unfolding operandsRight
-returns-9 c = simp (c .before .match .keys5, lt-ltb _ _ (c .if5 .taken))
+returns-9 c = simp (c .before .before .match .keys5, lt-ltb _ _ (c .if5 .taken))
 
 returns-10 : tie.Need-returns-10
 unfolding operandsRight
-returns-10 c = simp (c .before .match .keys5, le-ltb _ _ (c .if5 .left))
+returns-10 c = simp (c .before .before .match .keys5, le-ltb _ _ (c .if5 .left))
 
 returns-11 : tie.Need-returns-11
 unfolding operandsRight
-returns-11 c = simp (c .before .match .keys6, lt-ltb _ _ (c .if6 .taken))
+returns-11 c = simp (c .before .before .match .keys6, lt-ltb _ _ (c .if6 .taken))
 
 returns-12 : tie.Need-returns-12
 unfolding operandsRight
-returns-12 c = simp (c .before .match .keys6, le-ltb _ _ (c .if6 .left))
+returns-12 c = simp (c .before .before .match .keys6, le-ltb _ _ (c .if6 .left))
 
 returns-13 : tie.Need-returns-13
 unfolding operandsRight

@@ -21,6 +21,9 @@ loop-holds c = passed-none _ _
 shared-slice-read-if1 : tie.Need-shared-slice-read-if1 Inv-loop μ-loop
 shared-slice-read-if1 c = omega arith
 
+cast-t7 : tie.Need-cast-t7 Inv-loop μ-loop
+cast-t7 c = omega arith
+
 returns : tie.Need-returns Inv-loop μ-loop
 returns c = passed-found _ _ _ (c .before .before .before .loop .inv) (lt-ltb _ _ (c .if1 .taken))
 
@@ -33,6 +36,9 @@ loop-less c = omega arith
 loop-again : tie.Need-loop-again Inv-loop μ-loop
 loop-again c = passed-more _ _ _ (c .before .before .loop-test .taken) (c .before .before .before .loop .inv) (le-ltb _ _ (c .if1 .left))
 
+cast-t8 : tie.Need-cast-t8 Inv-loop μ-loop
+cast-t8 c = omega arith
+
 returns-2 : tie.Need-returns-2 Inv-loop μ-loop
 returns-2 c = passed-all _ _ _ (c .before .loop .inv) (c .loop-test .left)
 
@@ -44,8 +50,10 @@ unknown-kind-spec =
     μ-loop
     loop-holds
     shared-slice-read-if1
+    cast-t7
     returns
     add-i
     loop-less
     loop-again
+    cast-t8
     returns-2)

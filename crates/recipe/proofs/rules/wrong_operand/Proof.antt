@@ -21,6 +21,9 @@ abbrev μ-loop : tie.MeasureT-loop
 loop-holds : tie.Need-loop-holds Inv-loop μ-loop
 loop-holds c = passed-none _ _
 
+cast-operands-right : tie.Need-cast-operands-right Inv-loop μ-loop
+cast-operands-right c = omega arith
+
 shared-slice-read-operands-right : tie.Need-shared-slice-read-operands-right Inv-loop μ-loop
 shared-slice-read-operands-right c = omega arith
 
@@ -30,17 +33,11 @@ mul-operands-right c = omega arith
 shared-slice-read-operands-right-2 : tie.Need-shared-slice-read-operands-right-2 Inv-loop μ-loop
 shared-slice-read-operands-right-2 c = omega arith
 
-cast-operands-right : tie.Need-cast-operands-right Inv-loop μ-loop
-cast-operands-right c = omega (arith, c .shared-slice-known6 .given (c .before .before .before .loop .i))
-
 mul-operands-right-2 : tie.Need-mul-operands-right-2 Inv-loop μ-loop
 mul-operands-right-2 c = omega arith
 
 shared-slice-read-operands-right-3 : tie.Need-shared-slice-read-operands-right-3 Inv-loop μ-loop
 shared-slice-read-operands-right-3 c = omega arith
-
-cast-operands-right-2 : tie.Need-cast-operands-right-2 Inv-loop μ-loop
-cast-operands-right-2 c = omega (arith, c .shared-slice-known7 .given (c .before .before .before .before .loop .i))
 
 operands-right-requires : tie.Need-operands-right-requires Inv-loop μ-loop
 operands-right-requires c κs = tt
@@ -61,6 +58,9 @@ loop-again c =
     let turn = c .before .before .before .before .before in
     passed-more _ _ _ (turn .loop-test .taken) (turn .before .loop .inv) (ap not (sym (c .before .operands-right .ensures)) ∙ c .if1 .left)
 
+cast-t18 : tie.Need-cast-t18 Inv-loop μ-loop
+cast-t18 c = omega arith
+
 returns-2 : tie.Need-returns-2 Inv-loop μ-loop
 returns-2 c = passed-all _ _ _ (c .before .loop .inv) (c .loop-test .left)
 
@@ -71,16 +71,16 @@ wrong-operand-spec =
     Inv-loop
     μ-loop
     loop-holds
+    cast-operands-right
     shared-slice-read-operands-right
     mul-operands-right
     shared-slice-read-operands-right-2
-    cast-operands-right
     mul-operands-right-2
     shared-slice-read-operands-right-3
-    cast-operands-right-2
     operands-right-requires
     returns
     add-i
     loop-less
     loop-again
+    cast-t18
     returns-2)

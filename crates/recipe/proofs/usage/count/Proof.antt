@@ -6,6 +6,9 @@ use borrow.Author.Needs.{needs}
 use Rattle.recipe.proofs.usage.count.Statement.{statement}
 use Rattle.recipe.proofs.usage.count.Tie as tie
 
+cast-at : tie.Need-cast-at
+cast-at c = search needs
+
 element-copy-out-if1 : tie.Need-element-copy-out-if1
 element-copy-out-if1 c = search needs
 
@@ -19,15 +22,18 @@ element-write-counts : tie.Need-element-write-counts
 element-write-counts c = search needs
 
 returns : tie.Need-returns
-returns c = let a = c .before .before .before .args in counts-up (now (a .counts)) (a .row) (c .before .before .before .pre) (c .before .if1 .taken)
+returns c = let s = c .before .before .before .before in
+    counts-up (now (s .args .counts)) (s .args .row .0) (s .pre) (c .before .if1 .taken)
 
 returns-2 : tie.Need-returns-2
-returns-2 c = let a = c .before .before .args in counts-stay (now (a .counts)) (a .row) (c .before .before .pre) (c .if1 .left)
+returns-2 c = let s = c .before .before .before in
+    counts-stay (now (s .args .counts)) (s .args .row .0) (s .pre) (c .if1 .left)
 
 pub count-spec : {M : Type 1} → statement M
 count-spec =
     tie.close
     (tie.spec
+    cast-at
     element-copy-out-if1
     element-copy-out-counts
     add-counts

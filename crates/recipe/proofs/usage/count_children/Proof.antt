@@ -34,17 +34,11 @@ mul-count-row c = omega arith
 shared-slice-read-count-row-2 : tie.Need-shared-slice-read-count-row-2 Inv-loop μ-loop
 shared-slice-read-count-row-2 c = omega arith
 
-cast-count-row : tie.Need-cast-count-row Inv-loop μ-loop
-cast-count-row c = omega (arith, c .shared-slice-known5 .given (c .before .before .before .before .loop .i))
-
 mul-count-row-2 : tie.Need-mul-count-row-2 Inv-loop μ-loop
 mul-count-row-2 c = omega arith
 
 shared-slice-read-count-row-3 : tie.Need-shared-slice-read-count-row-3 Inv-loop μ-loop
 shared-slice-read-count-row-3 c = omega arith
-
-cast-count-row-2 : tie.Need-cast-count-row-2 Inv-loop μ-loop
-cast-count-row-2 c = omega (arith, c .shared-slice-known6 .given (c .before .before .before .before .before .loop .i))
 
 count-row-requires : tie.Need-count-row-requires Inv-loop μ-loop
 count-row-requires c κs i u =
@@ -78,10 +72,8 @@ count-children-spec =
     shared-slice-read-count-row
     mul-count-row
     shared-slice-read-count-row-2
-    cast-count-row
     mul-count-row-2
     shared-slice-read-count-row-3
-    cast-count-row-2
     count-row-requires
     add-i
     loop-less

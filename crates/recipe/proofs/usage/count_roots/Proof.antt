@@ -26,14 +26,11 @@ loop-holds : tie.Need-loop-holds Inv-loop μ-loop
 unfolding sumBelow
 loop-holds c = (omega arith, λ met m. counts-same (now (c .before .args .counts)) met _ (λ i. sym (add-zero (met i))) m)
 
-mul-count : tie.Need-mul-count Inv-loop μ-loop
-mul-count c = omega arith
+mul-t4 : tie.Need-mul-t4 Inv-loop μ-loop
+mul-t4 c = omega arith
 
-shared-slice-read-count : tie.Need-shared-slice-read-count Inv-loop μ-loop
-shared-slice-read-count c = omega arith
-
-cast-count : tie.Need-cast-count Inv-loop μ-loop
-cast-count c = omega (arith, c .shared-slice-known2 .given (c .before .before .before .loop .f))
+shared-slice-read-t9 : tie.Need-shared-slice-read-t9 Inv-loop μ-loop
+shared-slice-read-t9 c = omega arith
 
 count-requires : tie.Need-count-requires Inv-loop μ-loop
 count-requires c κs = c .before .before .before .before .before .pre (c .before .before .before .loop .f) (omega arith)
@@ -65,9 +62,8 @@ count-roots-spec =
     Inv-loop
     μ-loop
     loop-holds
-    mul-count
-    shared-slice-read-count
-    cast-count
+    mul-t4
+    shared-slice-read-t9
     count-requires
     add-f
     loop-less
