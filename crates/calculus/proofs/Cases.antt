@@ -8,7 +8,7 @@ use native.Mathlib.Omega.{arith}
 use Rattle.calculus.specs.Syntax.{Stmt, step, seq, loop, async, finish, Parallel, thread}
 use Rattle.calculus.specs.Syntax.{Context, hole, inFirst, inSecond, inAsync, inFinish, Allowed, plug}
 use Rattle.calculus.specs.Steps.{stay, move, within, enter-loop}
-use Rattle.calculus.specs.Enabled.{EnabledTwice, MayMeet}
+use Rattle.calculus.specs.Enabled.{BothEnabled, MayMeet}
 use Rattle.calculus.specs.Rules.{Summary, summaryOf}
 
 -- C;s and s;C are two contexts.
@@ -57,13 +57,13 @@ one-place l (inSecond s c) e = let z : _≡_ {A = ℕ} 0 1 = cc in absurd (omega
 one-place l (inAsync c) e = let z : _≡_ {A = ℕ} 0 1 = cc in absurd (omega arith)
 one-place l (inFinish c) e = let z : _≡_ {A = ℕ} 0 1 = cc in absurd (omega arith)
 
-step-once : (l : ℕ) → ¬ EnabledTwice (step l) l l
+step-once : (l : ℕ) → ¬ BothEnabled (step l) l l
 step-once l e =
     let same : e .C₁ ≡ e .C₂ = cc (one-place l (e .C₁) (e .at₁), one-place l (e .C₂) (e .at₂)) in
     e .different same
 
 -- Section 3's remark: (async 5);6 has 5 and 6 enabled.
-threads-enabled : EnabledTwice (seq (async (step 5)) (step 6)) 5 6
+threads-enabled : BothEnabled (seq (async (step 5)) (step 6)) 5 6
 threads-enabled =
     record {
       C₁ = inFirst (inAsync hole) (step 6);

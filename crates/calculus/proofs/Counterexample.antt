@@ -40,7 +40,7 @@ stuck : {s : Stmt} → Done endless s → ¬ CallsG s
 unfolding CallsG
 stuck Done.at-once h = h
 stuck Done.acted h = h
-stuck (Done.joined d e) h = h
+stuck (Done.followed d e) h = h
 stuck Done.left h = h
 stuck Done.spawned h = h
 stuck (Done.waited d) h = h

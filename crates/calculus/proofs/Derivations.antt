@@ -5,7 +5,7 @@ use mathlib.Core.Path.{refl, subst}
 use mathlib.Core.Logic.{_⊎_, inl, inr, ⊎-elim}
 use Prim.Native.Nat.{ℕ}
 use Rattle.calculus.specs.Syntax.{Stmt, skip, step, seq, loop, async, finish, call, Program, body}
-use Rattle.calculus.specs.Rules.{Summary, crossed, summaryOf, Inside, Least}
+use Rattle.calculus.specs.Rules.{Summary, symcross, summaryOf, Inside, Least}
 use Rattle.calculus.proofs.Inside.{Closed, nothing-inside, inside-trans, both, crossed-inside, summary-monotone}
 
 -- L: the label runs in the statement. What follows s₁ in s₁;s₂ runs if control passes s₁.
@@ -30,9 +30,9 @@ pub data Stays (p : Program) (G : Stmt → Type 0) : Stmt → ℕ → Type 0 whe
 pub data Meets (p : Program) (G : Stmt → Type 0) : Stmt → ℕ → ℕ → Type 0 where
   first : {s t : Stmt} {a b : ℕ} → Meets p G s a b → Meets p G (seq s t) a b
   second : {s t : Stmt} {a b : ℕ} → G s → Meets p G t a b → Meets p G (seq s t) a b
-  across : {s t : Stmt} {a b : ℕ} → crossed (Stays p G s) (Runs p G t) a b → Meets p G (seq s t) a b
+  across : {s t : Stmt} {a b : ℕ} → symcross (Stays p G s) (Runs p G t) a b → Meets p G (seq s t) a b
   looped : {s : Stmt} {a b : ℕ} → Meets p G s a b → Meets p G (loop s) a b
-  around : {s : Stmt} {a b : ℕ} → crossed (Stays p G s) (Runs p G s) a b → Meets p G (loop s) a b
+  around : {s : Stmt} {a b : ℕ} → symcross (Stays p G s) (Runs p G s) a b → Meets p G (loop s) a b
   spawned : {s : Stmt} {a b : ℕ} → Meets p G s a b → Meets p G (async s) a b
   waited : {s : Stmt} {a b : ℕ} → Meets p G s a b → Meets p G (finish s) a b
   called : {f a b : ℕ} → Meets p G (body p f) a b → Meets p G (call f) a b

@@ -10,7 +10,7 @@ use Rattle.calculus.specs.Steps.{Moves, within, Steps, stay, move}
 pub data Ends (p : Program) : Stmt → Type 0 where
   at-once : Ends p skip
   acted : {l : ℕ} → Ends p (step l)
-  joined : {s t : Stmt} → Ends p s → Ends p t → Ends p (seq s t)
+  followed : {s t : Stmt} → Ends p s → Ends p t → Ends p (seq s t)
   left : {s : Stmt} → Ends p (loop s)
   spawned : {s : Stmt} → Ends p s → Ends p (async s)
   waited : {s : Stmt} → Ends p s → Ends p (finish s)
@@ -20,7 +20,7 @@ pub data Ends (p : Program) : Stmt → Type 0 where
 pub data Done (p : Program) : Stmt → Type 0 where
   at-once : Done p skip
   acted : {l : ℕ} → Done p (step l)
-  joined : {s t : Stmt} → Done p s → Done p t → Done p (seq s t)
+  followed : {s t : Stmt} → Done p s → Done p t → Done p (seq s t)
   left : {s : Stmt} → Done p (loop s)
   spawned : {s : Stmt} → Done p (async s)
   waited : {s : Stmt} → Ends p s → Done p (finish s)
@@ -49,14 +49,14 @@ module _ {p : Program} where
   pub ends-done : {s : Stmt} → Ends p s → Done p s
   ends-done Ends.at-once = Done.at-once
   ends-done Ends.acted = Done.acted
-  ends-done (Ends.joined h k) = Done.joined (ends-done h) (ends-done k)
+  ends-done (Ends.followed h k) = Done.followed (ends-done h) (ends-done k)
   ends-done Ends.left = Done.left
   ends-done (Ends.spawned h) = Done.spawned
   ends-done (Ends.waited h) = Done.waited h
   ends-done (Ends.called h) = Done.called (ends-done h)
 
   pub parallel-done : {s : Stmt} → Parallel s → Done p s
-  parallel-done (threads h k) = Done.joined (parallel-done h) (parallel-done k)
+  parallel-done (threads h k) = Done.followed (parallel-done h) (parallel-done k)
   parallel-done thread = Done.spawned
 
   first-lifts : (u s t : Stmt) → Moves p s t → Moves p (seq s u) (seq t u)
@@ -126,7 +126,7 @@ module _ {p : Program} where
   pub ends-can : {s : Stmt} → Ends p s → Can p s Skipped
   ends-can Ends.at-once = can-now skipped
   ends-can Ends.acted = can-reduce take-step (can-now skipped)
-  ends-can (Ends.joined {t = t} h k) = can-end (in-first t) (ends-can h) go-on (ends-can k)
+  ends-can (Ends.followed {t = t} h k) = can-end (in-first t) (ends-can h) go-on (ends-can k)
   ends-can Ends.left = can-reduce leave-loop (can-now skipped)
   ends-can (Ends.spawned h) = can-end in-async (ends-can h) thread-ends (can-now skipped)
   ends-can (Ends.waited h) = can-end in-finish (ends-can h) wait-ends (can-now skipped)
@@ -140,7 +140,7 @@ module _ {p : Program} where
   pub done-can : {s : Stmt} → Done p s → Can p s Passed
   done-can Done.at-once = can-now nothing-left
   done-can Done.acted = can-reduce take-step (can-now nothing-left)
-  done-can (Done.joined h k) = can-after (done-can h) (done-can k) both-passed
+  done-can (Done.followed h k) = can-after (done-can h) (done-can k) both-passed
   done-can Done.left = can-reduce leave-loop (can-now nothing-left)
   done-can Done.spawned = can-now (threads-left thread)
   done-can (Done.waited h) = can-end in-finish (ends-can h) wait-ends (can-now nothing-left)

@@ -32,10 +32,10 @@ module _ (p : Program) where
 
   module _ {s s′ t t′ : Stmt} (x : Told s′ s) (y : Told t′ t) where
     seq-ends : Ends p (seq s′ t′) → Ends p (seq s t)
-    seq-ends (Ends.joined h k) = Ends.joined (x .ends h) (y .ends k)
+    seq-ends (Ends.followed h k) = Ends.followed (x .ends h) (y .ends k)
 
     seq-done : Done p (seq s′ t′) → Done p (seq s t)
-    seq-done (Done.joined h k) = Done.joined (x .done h) (y .done k)
+    seq-done (Done.followed h k) = Done.followed (x .done h) (y .done k)
 
     seq-runs : {l : ℕ} → Runs p (Done p) (seq s′ t′) l → Runs p (Done p) (seq s t) l
     seq-runs {l} (Runs.first h) = Runs.first (x .rest .L l h)
@@ -123,15 +123,15 @@ module _ (p : Program) where
   reduced-told : {r s : Stmt} → Reduces p r s → Told s r
   reduced-told go-on =
       record {
-        ends = Ends.joined Ends.at-once;
-        done = Done.joined Done.at-once;
+        ends = Ends.followed Ends.at-once;
+        done = Done.followed Done.at-once;
         rest =
             record { M = λ a b. Meets.second Done.at-once; O = λ l. Stays.second Done.at-once; L = λ l. Runs.second Done.at-once };
       }
   reduced-told (threads-stay _) =
       record {
-        ends = λ h. Ends.joined h Ends.at-once;
-        done = λ h. Done.joined h Done.at-once;
+        ends = λ h. Ends.followed h Ends.at-once;
+        done = λ h. Done.followed h Done.at-once;
         rest = record { M = λ a b. Meets.first; O = λ l. Stays.first Done.at-once; L = λ l. Runs.first };
       }
   reduced-told leave-loop = skip-told _ Ends.left

@@ -3,7 +3,7 @@
 use mathlib.Core.Logic.{_⊎_, ⊎-map}
 use Prim.Native.Nat.{ℕ}
 use Rattle.calculus.specs.Syntax.{Stmt, skip, step, seq, loop, async, finish, call, Program, body}
-use Rattle.calculus.specs.Rules.{Summary, crossed, joined, looped, spawned, waited, nothing, summaryOf, Inside, Least}
+use Rattle.calculus.specs.Rules.{Summary, symcross, followed, looped, spawned, waited, nothing, summaryOf, Inside, Least}
 
 pub inside-refl : (x : Summary) → Inside x x
 inside-refl x = record { M = λ l₁ l₂ h. h; O = λ l h. h; L = λ l h. h }
@@ -31,11 +31,11 @@ pub crossed-inside :
     ((l : ℕ) → A l → A′ l) →
     ((l : ℕ) → B l → B′ l) →
     (l₁ l₂ : ℕ) →
-    crossed A B l₁ l₂ →
-    crossed A′ B′ l₁ l₂
+    symcross A B l₁ l₂ →
+    symcross A′ B′ l₁ l₂
 crossed-inside f g l₁ l₂ = both (f l₁) (g l₂) (g l₁) (f l₂)
 
-pub joined-inside : {x x′ y y′ : Summary} → Inside x x′ → Inside y y′ → Inside (joined x y) (joined x′ y′)
+pub joined-inside : {x x′ y y′ : Summary} → Inside x x′ → Inside y y′ → Inside (followed x y) (followed x′ y′)
 joined-inside i j =
     record {
       M = λ l₁ l₂. ⊎-map (i .M l₁ l₂) (⊎-map (j .M l₁ l₂) (crossed-inside (i .O) (j .L) l₁ l₂));

@@ -9,7 +9,7 @@ use native.Mathlib.Decide.{decLt, ℕ-discrete}
 use native.Mathlib.Omega.{arith}
 use lib.ListN.{length, List·getD-eq-default}
 use Rattle.calculus.specs.Syntax.{Stmt, skip, step, seq, loop, async, finish, call, Program, body}
-use Rattle.calculus.specs.Rules.{crossed}
+use Rattle.calculus.specs.Rules.{symcross}
 use Rattle.calculus.specs.Calls.{CallsIn, Calls, Reaches, one, more, FromMain, NoSelfCall}
 use Rattle.calculus.proofs.Inside.{both}
 use Rattle.calculus.proofs.Derivations.{Runs, Stays, Meets, Free}
@@ -58,7 +58,7 @@ module _ (p : Program) where
   pub calls-end : (s : Stmt) → ((g : ℕ) → CallsIn s g → Ends p (body p g)) → Ends p s
   calls-end skip h = Ends.at-once
   calls-end (step l) h = Ends.acted
-  calls-end (seq s t) h = Ends.joined (calls-end s (λ g c. h g (inl c))) (calls-end t (λ g c. h g (inr c)))
+  calls-end (seq s t) h = Ends.followed (calls-end s (λ g c. h g (inl c))) (calls-end t (λ g c. h g (inr c)))
   calls-end (loop s) h = Ends.left
   calls-end (async s) h = Ends.spawned (calls-end s h)
   calls-end (finish s) h = Ends.waited (calls-end s h)
@@ -136,8 +136,8 @@ module _ (p : Program) where
         {s t : Stmt} {a b : ℕ} →
         OfMain s →
         OfMain t →
-        crossed (Stays p Free s) (Runs p Free t) a b →
-        crossed (Stays p G s) (Runs p G t) a b
+        symcross (Stays p Free s) (Runs p Free t) a b →
+        symcross (Stays p G s) (Runs p G t) a b
     guard-crossed v w = both (λ h. guard-stays h v) (λ h. guard-runs h w) (λ h. guard-runs h w) (λ h. guard-stays h v)
 
     pub guard-meets : {s : Stmt} {a b : ℕ} → Meets p Free s a b → OfMain s → Meets p G s a b

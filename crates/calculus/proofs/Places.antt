@@ -5,7 +5,7 @@ use mathlib.Core.Logic.{_≢_, inl, inr}
 use Prim.Native.Nat.{ℕ}
 use Rattle.calculus.specs.Syntax.{Stmt, step, seq, async, finish, Parallel, threads, thread}
 use Rattle.calculus.specs.Syntax.{Context, hole, inFirst, inSecond, inAsync, inFinish, Allowed, plug, Program}
-use Rattle.calculus.specs.Enabled.{EnabledTwice, MayMeet}
+use Rattle.calculus.specs.Enabled.{BothEnabled, MayMeet}
 use Rattle.calculus.specs.Rules.{Summary, summaryOf, Solution}
 use Rattle.calculus.proofs.Preservation.{steps-inside}
 use Rattle.calculus.proofs.Derivations.{Runs, Stays, Meets, Free, derived-inside}
@@ -46,11 +46,11 @@ at-plug (waited a) = ap finish (at-plug a)
 pub data Twice (a b : ℕ) (s : Stmt) : Type 0 where
   at-both : {c d : Context} → c ≢ d → At s a c → At s b d → Twice a b s
 
-pub enabled-twice : {s : Stmt} {a b : ℕ} → EnabledTwice s a b → Twice a b s
+pub enabled-twice : {s : Stmt} {a b : ℕ} → BothEnabled s a b → Twice a b s
 enabled-twice {s} {a} {b} e =
     at-both (e .different) (enabled-at (e .C₁) a (e .allowed₁) (e .at₁)) (enabled-at (e .C₂) b (e .allowed₂) (e .at₂))
 
-pub twice-enabled : {s : Stmt} {a b : ℕ} → Twice a b s → EnabledTwice s a b
+pub twice-enabled : {s : Stmt} {a b : ℕ} → Twice a b s → BothEnabled s a b
 twice-enabled (at-both {c = c} {d = d} n h k) =
     record {
       C₁ = c;

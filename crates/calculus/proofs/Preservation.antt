@@ -5,13 +5,13 @@ use Prim.Native.Nat.{ℕ}
 use Rattle.calculus.specs.Syntax.{Stmt, Context, hole, inFirst, inSecond, inAsync, inFinish, plug, Program}
 use Rattle.calculus.specs.Steps.{Reduces, go-on, threads-stay, leave-loop, enter-loop, thread-ends, wait-ends, take-step, copy-body}
 use Rattle.calculus.specs.Steps.{Moves, within, Steps, stay, move}
-use Rattle.calculus.specs.Rules.{Summary, joined, looped, nothing, summaryOf, Inside}
+use Rattle.calculus.specs.Rules.{Summary, followed, looped, nothing, summaryOf, Inside}
 use Rattle.calculus.proofs.Inside.{Closed, inside-refl, inside-trans, nothing-inside, joined-inside, spawned-inside, waited-inside}
 
-first-inside : (x y : Summary) → Inside x (joined x y)
+first-inside : (x y : Summary) → Inside x (followed x y)
 first-inside x y = record { M = λ l₁ l₂. inl; O = λ l. inl; L = λ l. inl }
 
-second-inside : (x y : Summary) → Inside y (joined x y)
+second-inside : (x y : Summary) → Inside y (followed x y)
 second-inside x y = record { M = λ l₁ l₂ h. inr (inl h); O = λ l. inr; L = λ l. inr }
 
 once-more : {A : Type 0} → A ⊎ A → A
@@ -19,10 +19,10 @@ once-more (inl a) = a
 once-more (inr a) = a
 
 -- A turn of the loop and the loop again are the loop: unions alone.
-unrolled-inside : (x : Summary) → Inside (joined x (looped x)) (looped x)
+unrolled-inside : (x : Summary) → Inside (followed x (looped x)) (looped x)
 unrolled-inside x = record { M = λ l₁ l₂. pair l₁ l₂; O = λ l. once-more; L = λ l. once-more }
   where
-    pair : (l₁ l₂ : ℕ) → joined x (looped x) .M l₁ l₂ → looped x .M l₁ l₂
+    pair : (l₁ l₂ : ℕ) → followed x (looped x) .M l₁ l₂ → looped x .M l₁ l₂
     pair l₁ l₂ (inl m) = inl m
     pair l₁ l₂ (inr (inl m)) = m
     pair l₁ l₂ (inr (inr c)) = inr c

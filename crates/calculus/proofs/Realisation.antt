@@ -7,7 +7,7 @@ use Rattle.calculus.specs.Syntax.{Stmt, seq, loop, async, finish, Parall
 use Rattle.calculus.specs.Syntax.{Context, inFirst, inSecond, inAsync, inFinish, Program}
 use Rattle.calculus.specs.Steps.{threads-stay, enter-loop, copy-body}
 use Rattle.calculus.specs.Enabled.{MayMeet}
-use Rattle.calculus.specs.Rules.{crossed}
+use Rattle.calculus.specs.Rules.{symcross}
 use Rattle.calculus.proofs.Cases.{apart}
 use Rattle.calculus.proofs.Inside.{both}
 use Rattle.calculus.proofs.Derivations.{Runs, Stays, Meets}
@@ -108,7 +108,7 @@ module _ {p : Program} where
       can-under (in-first t) c (λ u q. can-under (in-second (kept-parallel q)) d (λ v r. can-now (twice-across a b q r)))
 
   crossed-can :
-      {a b : ℕ} {s t : Stmt} → crossed (Stays p (Done p) s) (Runs p (Done p) t) a b → Can p (seq s t) (Twice a b)
+      {a b : ℕ} {s t : Stmt} → symcross (Stays p (Done p) s) (Runs p (Done p) t) a b → Can p (seq s t) (Twice a b)
   crossed-can (inl h) = cross (stays-can (h .0)) (runs-can (h .1))
   crossed-can {a} {b} (inr h) = can-map (cross (stays-can (h .1)) (runs-can (h .0))) (λ u. twice-swap b a)
 

@@ -6,7 +6,7 @@ use Rattle.calculus.specs.Syntax.{Stmt, step, Context, Allowed, plug, Pr
 use Rattle.calculus.specs.Steps.{Steps}
 
 -- Section 3, CBE(s, l₁, l₂): s is C₁[step l₁] and C₂[step l₂] for two different allowed contexts.
-pub record EnabledTwice (s : Stmt) (l₁ l₂ : ℕ) : Type 0 where
+pub record BothEnabled (s : Stmt) (l₁ l₂ : ℕ) : Type 0 where
   pub C₁ : Context
   pub C₂ : Context
   pub different : C₁ ≢ C₂
@@ -19,4 +19,4 @@ pub record EnabledTwice (s : Stmt) (l₁ l₂ : ℕ) : Type 0 where
 pub record MayMeet (p : Program) (s : Stmt) (l₁ l₂ : ℕ) : Type 0 where
   pub state : Stmt
   pub run : Steps p s state
-  pub enabled : EnabledTwice state l₁ l₂
+  pub enabled : BothEnabled state l₁ l₂

@@ -11,21 +11,21 @@ pub record Summary : Type 1 where
   pub L : ℕ → Type 0
 
 -- Section 4, symcross: every (a, b) and every (b, a) with a of A and b of B.
-abbrev pub crossed : (ℕ → Type 0) → (ℕ → Type 0) → ℕ → ℕ → Type 0
-crossed A B l₁ l₂ = (A l₁ × B l₂) ⊎ (B l₁ × A l₂)
+abbrev pub symcross : (ℕ → Type 0) → (ℕ → Type 0) → ℕ → ℕ → Type 0
+symcross A B l₁ l₂ = (A l₁ × B l₂) ⊎ (B l₁ × A l₂)
 
 -- Rule (10), of s₁;s₂.
-abbrev pub joined : Summary → Summary → Summary
-joined x y =
+abbrev pub followed : Summary → Summary → Summary
+followed x y =
     record {
-      M = λ l₁ l₂. x .M l₁ l₂ ⊎ y .M l₁ l₂ ⊎ crossed (x .O) (y .L) l₁ l₂;
+      M = λ l₁ l₂. x .M l₁ l₂ ⊎ y .M l₁ l₂ ⊎ symcross (x .O) (y .L) l₁ l₂;
       O = λ l. x .O l ⊎ y .O l;
       L = λ l. x .L l ⊎ y .L l;
     }
 
 -- Rule (11), of loop s.
 abbrev pub looped : Summary → Summary
-looped x = record { M = λ l₁ l₂. x .M l₁ l₂ ⊎ crossed (x .O) (x .L) l₁ l₂; O = x .O; L = x .L }
+looped x = record { M = λ l₁ l₂. x .M l₁ l₂ ⊎ symcross (x .O) (x .L) l₁ l₂; O = x .O; L = x .L }
 
 -- Rule (12), of async s.
 abbrev pub spawned : Summary → Summary
@@ -47,7 +47,7 @@ nothing = record { M = λ l₁ l₂. ⊥; O = λ l. ⊥; L = λ l. ⊥ }
 abbrev pub summaryOf : (ℕ → Summary) → Stmt → Summary
 summaryOf B skip = nothing
 summaryOf B (step l) = stepped l
-summaryOf B (seq s t) = joined (summaryOf B s) (summaryOf B t)
+summaryOf B (seq s t) = followed (summaryOf B s) (summaryOf B t)
 summaryOf B (loop s) = looped (summaryOf B s)
 summaryOf B (async s) = spawned (summaryOf B s)
 summaryOf B (finish s) = waited (summaryOf B s)
