@@ -9,7 +9,7 @@ use native.Mathlib.Decide.{decLt}
 use native.Mathlib.Omega.{arith}
 use lib.Bits.{bitOr, or-lt, or-zero-l}
 use lib.Dec.{lit<}
-use lib.ListN.{length, getD, take, drop, length-take, drop-of-length-le}
+use lib.ListN.{length, getD, take, drop, length-take, drop-of-length-le, List·getD-append}
 use lib.Seq.{ext-getD, getD-take, getD-drop, take-nil}
 use Rattle.numbers.specs.General.{laid}
 use Rattle.numbers.specs.Sizes.{wordBits, labelCeiling, matrixWords}
@@ -228,3 +228,14 @@ pub copied-laid : (w : ℕ) (m x : List ℕ) → matrixWords w ≤ length m → 
 unfolding copied
 copied-laid w m x h e =
     replaced (matrixWords w) (λ k. getD x k 0) m x h e (λ k l. refl) ∙ ap (λ (n : ℕ). x ++ drop n m) (sym e)
+
+-- a whole matrix laid over the front of other words keeps its marks
+pub marked-laid :
+    (w : ℕ) (x m : List ℕ) (i j : ℕ) → length x ≡ matrixWords w → i < labelCeiling w → j < labelCeiling w
+    → marked w (laid x m) i j ≡ marked w x i j
+marked-laid w x m i j e h l =
+    marked-at w (laid x m) i j l
+    ∙ ap (λ (v : ℕ). bit v (j % wordBits))
+    (List·getD-append x (drop (length x) m) 0 (i * w + j / wordBits)
+    (subst (λ (n : ℕ). i * w + j / wordBits < n) (sym e) (place-below w i (j / wordBits) h (omega arith))))
+    ∙ sym (marked-at w x i j l)

@@ -3,20 +3,27 @@
 use mathlib.Core.Path.{_≡_, ap, ap₂, _∙_, subst}
 use mathlib.Core.List.{List, [], _∷_}
 use Prim.Native.Nat.{ℕ, suc, _+_, _-_, _*_, _/_, _%_, _^_, _≤_, _<_}
-use native.Mathlib.Nat.{div-one, mod-one, zero-add, mul-suc, mul-comm, le-of-lt}
+use native.Mathlib.Nat.{div-eq-of-lt, mod-eq-of-lt, div-one, mod-one, zero-add, mul-suc, mul-comm, le-of-lt}
 use native.Mathlib.Omega.{arith}
 use lib.Bits.{bitOr, bitAnd}
 use lib.Count.{ones}
 use lib.ListN.{getD}
 use lib.Pow.{low, pow-mono, pow-pos, suc-ones}
 use Rattle.numbers.specs.Sizes.{ours, wordBits, labelCeiling, matrixWords}
-use Rattle.labels.specs.Words.{Words, changed}
+use Rattle.labels.specs.Words.{bit, Words, changed}
 use Rattle.numbers.specs.General.{sumBelow}
 use Rattle.labels.specs.Sets.{member}
-use Rattle.matrix.specs.Matrix.{crossed, pairsAtOrAbove}
+use Rattle.matrix.specs.Matrix.{marked, crossed, pairsAtOrAbove}
 use Rattle.labels.proofs.ChangedLaws.{changed-alike}
 use Rattle.numbers.proofs.SumLaws.{sum-alike}
+use Rattle.matrix.proofs.MatrixLaws.{marked-at}
 use Rattle.matrix.proofs.CountLaws.{highMask, fromLabel, pairs-by-words}
+
+-- the pair (i,j) is bit j of word i
+pub marked-one : (m : List ℕ) (i j : ℕ) → j < labelCeiling (ours .words) → marked (ours .words) m i j ≡ bit (getD m i 0) j
+marked-one m i j l =
+    marked-at (ours .words) m i j l
+    ∙ ap₂ (λ (a b : ℕ). bit (getD m a 0) b) (ap (λ (n : ℕ). i * ours .words + n) (div-eq-of-lt l) ∙ omega arith) (mod-eq-of-lt l)
 
 other-way-round : (p t : ℕ) → t ≤ p → p * suc t ≡ t * suc p + (suc p - suc t)
 other-way-round p t h = omega (arith, mul-suc p t, mul-suc t p, mul-comm p t)

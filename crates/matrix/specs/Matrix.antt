@@ -9,6 +9,10 @@ use Rattle.numbers.specs.Sizes.{labelCeiling, matrixWords}
 use Rattle.labels.specs.Words.{changed}
 use Rattle.labels.specs.Sets.{member, joined}
 
+-- Two labels.
+abbrev pub Pair : Type 0
+Pair = ℕ × ℕ
+
 -- The set of label i's partners.
 abbrev pub partners : ℕ → List ℕ → ℕ → List ℕ
 partners w m i = take w (drop (i * w) m)
