@@ -1,18 +1,18 @@
--- The demands, of every admitted table: the reported round is the first that repeats, so its sets are the least solution, and all that holds of least solutions holds of the words that are handed back.
--- Assumes nothing.
-use mathlib.Core.Path.{_≡_, refl, sym, ap, ap₂, _∙_, subst}
+-- The demands, of every table that is admitted at some size: the reported round is the first that repeats, so its sets are the least
+-- solution, and all that holds of least solutions holds of the words that are handed back. Assumes nothing.
+use mathlib.Core.Path.{_≡_, refl, sym, ap, _∙_, subst}
 use mathlib.Core.Logic.{_↔_}
 use mathlib.Core.Bool.{Bool, true, false, cond, true≢false}
-use mathlib.Core.List.{List, _++_}
-use Prim.Native.Nat.{ℕ, suc, _+_, _*_, _≤_, _<_}
-use native.Mathlib.Nat.{mul-one, div-eq-of-lt, mod-eq-of-lt, add-zero}
+use mathlib.Core.List.{List}
+use Prim.Native.Nat.{ℕ, suc, _*_, _≤_, _<_}
 use native.Mathlib.Decide.{decLt}
 use native.Mathlib.Omega.{arith}
-use lib.ListN.{length, getD, drop, List·getD-append, List·getD-eq-default}
-use Rattle.labels.specs.Words.{bit}
-use Rattle.labels.specs.Sets.{ceiling}
-use Rattle.labels.specs.Matrix.{matrixWords, marked}
-use Rattle.labels.proofs.MatrixLaws.{marked-at}
+use lib.ListN.{length, List·getD-eq-default}
+use Rattle.numbers.specs.General.{lowest, laid}
+use Rattle.numbers.specs.Sizes.{Size, labelCeiling}
+use Rattle.numbers.proofs.LowestLaws.{none-below, lowest-within, lowest-passes}
+use Rattle.matrix.specs.Matrix.{marked}
+use Rattle.matrix.proofs.MatrixLaws.{marked-laid}
 use Rattle.calculus.specs.Syntax.{Stmt, skip, Program, body}
 use Rattle.calculus.specs.Steps.{Steps}
 use Rattle.calculus.specs.Enabled.{MayMeet}
@@ -20,76 +20,78 @@ use Rattle.calculus.specs.Rules.{Summary, summaryOf, Inside, Least}
 use Rattle.calculus.specs.Calls.{NoSelfCall}
 use Rattle.calculus.proofs.Inside.{least-unique}
 use Rattle.calculus.proofs.Theorems as calculus
-use Rattle.recipe.specs.Rules.{lowest, admitted}
+use Rattle.recipe.specs.Rules.{admitted}
 use Rattle.recipe.specs.Statements.{programOf}
 use Rattle.recipe.specs.Tables.{Table, procs, rootAt}
 use Rattle.recipe.proofs.Admitted.{root-row}
-use Rattle.recipe.proofs.Lowest.{none-below, lowest-within, lowest-passes}
 use Rattle.recipe.proofs.Readings.{program-length, body-of-root}
-use Rattle.analysis.specs.Meaning.{meaning}
-use Rattle.analysis.specs.Rounds.{after, settled}
 use Rattle.calls.specs.Reached.{wide}
-use Rattle.analysis.specs.Replies.{rounds, mainPairs}
 use Rattle.calls.specs.Verdicts.{verdictAs, verdictOn}
 use Rattle.calls.specs.declared.Verdict.the-variants as verdict
+use Rattle.calls.proofs.ReachedLaws.{exact-no-self-call}
+use Rattle.analysis.specs.Meaning.{meaning}
+use Rattle.analysis.specs.Rounds.{after, settled}
+use Rattle.analysis.specs.Replies.{rounds, mainPairs}
+use Rattle.analysis.proofs.Bound.{settled-repeats, repeats-settled, final-settled}
+use Rattle.analysis.proofs.LabelsInRange.{labels-in-range}
 use Rattle.analysis.proofs.Meanings.{LabelsBelow}
 use Rattle.analysis.proofs.Shape.{shaped-after}
 use Rattle.demands.proofs.LeastSolution.{repeat-least}
-use Rattle.analysis.proofs.Bound.{settled-repeats, repeats-settled, final-settled}
-use Rattle.calls.proofs.ReachedLaws.{exact-no-self-call}
-use Rattle.analysis.proofs.LabelsInRange.{labels-in-range}
-
--- the first round at which the test passes, and that it does where it passes at the bound
-settled-at-lowest : (p : Program) → settled 1 p (lowest (3 * length p) (settled 1 p)) ≡ true
-settled-at-lowest p = go (decLt (lowest (3 * length p) (settled 1 p)) (3 * length p))
-  where
-    go : Dec (lowest (3 * length p) (settled 1 p) < 3 * length p) → settled 1 p (lowest (3 * length p) (settled 1 p)) ≡ true
-    go (yes h) = lowest-passes (3 * length p) (settled 1 p) h
-    go (no h) = final-settled 1 p (lowest (3 * length p) (settled 1 p)) (omega arith)
 
 -- ---- demand 2: the rounds
 
-module _ (p : Program) where
+module _ (w : ℕ) (p : Program) where
+  -- the test passes at the first round at which it may, since it passes at the bound
+  settled-at-lowest : settled w p (lowest (3 * length p) (settled w p)) ≡ true
+  settled-at-lowest = go (decLt (lowest (3 * length p) (settled w p)) (3 * length p))
+    where
+      go : Dec (lowest (3 * length p) (settled w p) < 3 * length p) → settled w p (lowest (3 * length p) (settled w p)) ≡ true
+      go (yes h) = lowest-passes (3 * length p) (settled w p) h
+      go (no h) = final-settled w p (lowest (3 * length p) (settled w p)) (omega arith)
+
   -- after the reported rounds one more changes nothing
-  pub demand-2-repeats : (f : ℕ) → after 1 p (suc (rounds 1 p)) f ≡ after 1 p (rounds 1 p) f
+  pub demand-2-repeats : (f : ℕ) → after w p (suc (rounds w p)) f ≡ after w p (rounds w p) f
   unfolding rounds
-  demand-2-repeats = settled-repeats 1 p (rounds 1 p) (settled-at-lowest p)
+  demand-2-repeats = settled-repeats w p (rounds w p) settled-at-lowest
 
   -- after fewer, one more changes something
-  pub demand-2-first : (k : ℕ) → k < rounds 1 p → ¬ ((f : ℕ) → after 1 p (suc k) f ≡ after 1 p k f)
+  pub demand-2-first : (k : ℕ) → k < rounds w p → ¬ ((f : ℕ) → after w p (suc k) f ≡ after w p k f)
   unfolding rounds
   demand-2-first k h e =
-      true≢false (sym (repeats-settled 1 p k e) ∙ none-below (3 * length p) (settled 1 p) k h)
+      true≢false (sym (repeats-settled w p k e) ∙ none-below (3 * length p) (settled w p) k h)
 
   -- they are at most three a procedure
-  pub demand-2-bound : rounds 1 p ≤ 3 * length p
+  pub demand-2-bound : rounds w p ≤ 3 * length p
   unfolding rounds
-  demand-2-bound = lowest-within (3 * length p) (settled 1 p)
+  demand-2-bound = lowest-within (3 * length p) (settled w p)
 
 -- ---- of an admitted table
 
-module _ (t : Table) (ok : admitted t) where
+module _ (z : Size) (t : Table) (ok : admitted z t) where
   -- the sets of the reported round
   abbrev pub reportedSets : ℕ → Summary
-  reportedSets f = meaning 1 (after 1 (programOf t) (rounds 1 (programOf t)) f)
+  reportedSets f = meaning (z .words) (after (z .words) (programOf t) (rounds (z .words) (programOf t)) f)
 
-  labels-below : (f : ℕ) → LabelsBelow (ceiling 1) (body (programOf t) f)
+  labels-below : (f : ℕ) → LabelsBelow (labelCeiling (z .words)) (body (programOf t) f)
   labels-below f = go (decLt f (procs t))
     where
-      go : Dec (f < procs t) → LabelsBelow (ceiling 1) (body (programOf t) f)
+      go : Dec (f < procs t) → LabelsBelow (labelCeiling (z .words)) (body (programOf t) f)
       go (yes h) =
-          subst (LabelsBelow (ceiling 1)) (sym (body-of-root t f h)) (labels-in-range t ok (rootAt t f) (root-row t ok f h))
+          subst (LabelsBelow (labelCeiling (z .words))) (sym (body-of-root t f h))
+          (labels-in-range z t ok (rootAt t f) (root-row z t ok f h))
       go (no h) =
-          subst (LabelsBelow (ceiling 1))
+          subst (LabelsBelow (labelCeiling (z .words)))
           (sym (List·getD-eq-default (programOf t) skip {n = f} (subst (λ (n : ℕ). n ≤ f) (sym (program-length t)) (omega arith)))) tt
 
   -- demand 2: the reported summaries are a solution of rule (17) and lie inside every solution
   pub demand-2-least : Least (programOf t) reportedSets
-  demand-2-least = repeat-least 1 (programOf t) labels-below (rounds 1 (programOf t)) (demand-2-repeats (programOf t))
+  demand-2-least =
+      repeat-least (z .words) (programOf t) labels-below (rounds (z .words) (programOf t)) (demand-2-repeats (z .words) (programOf t))
 
   -- demand 2: a mark is a pair of main in any least solution, and the other way round
   pub demand-2-pairs :
-      (B : ℕ → Summary) → Least (programOf t) B → (i j : ℕ) → (marked 1 (mainPairs 1 (programOf t)) i j ≡ 1) ↔ B 0 .M i j
+      (B : ℕ → Summary) → Least (programOf t) B
+      → (i j : ℕ) → (marked (z .words) (mainPairs (z .words) (programOf t)) i j ≡ 1) ↔ B 0 .M i j
   demand-2-pairs B least i j =
       let same = least-unique demand-2-least least 0 in
       (same .0 .M i j, same .1 .M i j)
@@ -100,33 +102,30 @@ module _ (t : Table) (ok : admitted t) where
   demand-3-no-new run = calculus.no-new (demand-2-least .solution) run
 
   -- demand 3: two labels enabled at two different places of a reached state are marked
-  pub demand-3-marked : {i j : ℕ} → MayMeet (programOf t) (body (programOf t) 0) i j → marked 1 (mainPairs 1 (programOf t)) i j ≡ 1
+  pub demand-3-marked :
+      {i j : ℕ} → MayMeet (programOf t) (body (programOf t) 0) i j → marked (z .words) (mainPairs (z .words) (programOf t)) i j ≡ 1
   demand-3-marked m = calculus.marked (demand-2-least .solution) m
 
   -- demand 3: without self-calls from main on, each marked pair is enabled at two different places in some reached state
   pub demand-3-met :
-      {i j : ℕ} → NoSelfCall (programOf t) → marked 1 (mainPairs 1 (programOf t)) i j ≡ 1 → MayMeet (programOf t) (body (programOf t) 0) i j
+      {i j : ℕ} → NoSelfCall (programOf t) → marked (z .words) (mainPairs (z .words) (programOf t)) i j ≡ 1
+      → MayMeet (programOf t) (body (programOf t) 0) i j
   demand-3-met acyclic m = calculus.met acyclic demand-2-least m
 
-  -- demand 3: the word exact brings that premise
-  pub demand-3-exact : worded t ≡ word.Exact → NoSelfCall (programOf t)
-  unfolding worded
-  demand-3-exact e = exact-no-self-call (programOf t) (not-wide (wide (programOf t)) (sym (ap (wordedAs (programOf t)) ok) ∙ e))
+  -- demand 3: the verdict exact brings that premise
+  pub demand-3-exact : verdictOn z t ≡ verdict.Exact → NoSelfCall (programOf t)
+  unfolding verdictOn
+  demand-3-exact e =
+      exact-no-self-call (programOf t) (not-wide (wide (programOf t)) (sym (ap (verdictAs (programOf t)) ok) ∙ e))
     where
-      not-wide : (b : Bool) → cond b word.Wide word.Exact ≡ word.Exact → b ≡ false
-      not-wide true e = let z : _≡_ {A = ℕ} 0 1 = cc in absurd (omega arith)
+      not-wide : (b : Bool) → cond b verdict.Wide verdict.Exact ≡ verdict.Exact → b ≡ false
+      not-wide true e = let n : _≡_ {A = ℕ} 0 1 = cc in absurd (omega arith)
       not-wide false e = refl
 
-  -- ---- the words that are handed back
-
-  -- bit j of word i of the lent matrix is the mark of (i,j)
+  -- the lent words that main's pairs are laid over hold main's marks
   pub matrix-marks :
-      (m : List ℕ) (i j : ℕ) → i < ceiling 1 → j < ceiling 1
-      → bit (getD (mainPairs 1 (programOf t) ++ drop (matrixWords 1) m) i 0) j ≡ marked 1 (mainPairs 1 (programOf t)) i j
-  matrix-marks m i j h l =
-      let size = shaped-after 1 (programOf t) (rounds 1 (programOf t)) 0 .M .size in
-      ap (λ (x : ℕ). bit x j) (List·getD-append (mainPairs 1 (programOf t)) (drop (matrixWords 1) m) 0 i (subst (λ (n : ℕ). i < n) (sym size) h))
-      ∙ sym
-      (marked-at 1 (mainPairs 1 (programOf t)) i j l
-      ∙ ap₂ (λ (a b : ℕ). bit (getD (mainPairs 1 (programOf t)) a 0) b)
-      (ap (λ (n : ℕ). i * 1 + n) (div-eq-of-lt l) ∙ add-zero (i * 1) ∙ mul-one i) (mod-eq-of-lt l))
+      (m : List ℕ) (i j : ℕ) → i < labelCeiling (z .words) → j < labelCeiling (z .words)
+      → marked (z .words) (laid (mainPairs (z .words) (programOf t)) m) i j ≡ marked (z .words) (mainPairs (z .words) (programOf t)) i j
+  matrix-marks m i j =
+      marked-laid (z .words) (mainPairs (z .words) (programOf t)) m i j
+      (shaped-after (z .words) (programOf t) (rounds (z .words) (programOf t)) 0 .M .size)

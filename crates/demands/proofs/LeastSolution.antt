@@ -1,8 +1,8 @@
--- A round that repeats is the least solution: each round is the rules applied to the one before, so what repeats solves them, and no round leaves any solution (Kleene).
--- Assumes nothing.
+-- A round that repeats is the least solution: each round is the rules applied to the one before, so what repeats solves them, and no
+-- round leaves any solution (Kleene). Assumes nothing.
 use mathlib.Core.Path.{_≡_, subst}
 use Prim.Native.Nat.{ℕ, zero, suc}
-use Rattle.labels.specs.Sets.{ceiling}
+use Rattle.numbers.specs.Sizes.{labelCeiling}
 use Rattle.calculus.specs.Syntax.{Program, body}
 use Rattle.calculus.specs.Rules.{Summary, summaryOf, Inside, Solution, Least}
 use Rattle.calculus.proofs.Inside.{inside-trans, nothing-inside, summary-monotone}
@@ -12,7 +12,7 @@ use Rattle.analysis.specs.Rounds.{after}
 use Rattle.analysis.proofs.Shape.{shaped-after}
 use Rattle.analysis.proofs.Meanings.{Same, LabelsBelow, empty-means, words-mean-sets}
 
-module _ (w : ℕ) (p : Program) (labels : (f : ℕ) → LabelsBelow (ceiling w) (body p f)) where
+module _ (w : ℕ) (p : Program) (labels : (f : ℕ) → LabelsBelow (labelCeiling w) (body p f)) where
   -- the sets that round k gives procedure f
   abbrev pub roundSets : ℕ → ℕ → Summary
   roundSets k f = meaning w (after w p k f)

@@ -4,9 +4,9 @@ use mathlib.Core.Path.{_≡_, refl}
 use mathlib.Core.Bool.{true}
 use Rattle.labels.specs.Words.{bit, changed, alike}
 use Rattle.labels.specs.Sets.{member, single, joined}
-use Rattle.labels.specs.Matrix.{crossed}
-use Rattle.recipe.specs.Rules.{lowest}
-use Rattle.analysis.specs.Rounds.{after, every}
+use Rattle.numbers.specs.General.{every, lowest}
+use Rattle.matrix.specs.Matrix.{crossed}
+use Rattle.analysis.specs.Rounds.{after}
 use Rattle.calls.specs.Reached.{calling, reached, someReaches}
 use Rattle.analysis.specs.Replies.{rounds}
 use Rattle.demands.specs.Starred.{matrixOf, saysTrue, allTrue, starred}
