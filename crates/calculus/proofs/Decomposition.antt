@@ -2,7 +2,8 @@
 -- Assumes nothing.
 use mathlib.Core.Path.{_≡_, refl, ap, _∙_}
 use mathlib.Core.Logic.{_≢_, _⊎_, inl, inr}
-use Rattle.calculus.specs.Syntax.{Stmt, skip, step, seq, loop, async, finish, call, thread, Context, hole, inFirst, inSecond, inAsync, inFinish, Allowed, plug}
+use Rattle.calculus.specs.Syntax.{Stmt, skip, step, seq, loop, async, finish, call, thread, Context, hole, inFirst, inSecond, inAsync, inFinish}
+use Rattle.calculus.specs.Syntax.{Allowed, plug}
 use Rattle.calculus.specs.Syntax.{Redex, skip-first, skip-second, a-loop, async-skip, finish-skip, a-step, a-call, Program, body}
 use Rattle.calculus.specs.Steps.{Reduces, go-on, threads-stay, leave-loop, enter-loop, thread-ends, wait-ends, take-step, copy-body}
 use Rattle.calculus.proofs.Cases.{apart}

@@ -1,4 +1,5 @@
--- What the rules derive in finitely many uses, a call's going on in the body, is the least solution: it is closed under the rules, and whatever is closed holds it.
+-- What the rules derive in finitely many uses, a call's going on in the body, is the least solution: it is closed under the rules, and
+-- whatever is closed holds it.
 -- A guard G says when control passes a statement; with none, the derivations are those of the paper's rules.
 -- Assumes nothing.
 use mathlib.Core.Path.{refl, subst}

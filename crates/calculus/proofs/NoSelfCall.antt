@@ -1,4 +1,5 @@
--- Where no procedure that main can reach reaches itself, everything ends: each call leaves a procedure behind that is never called again, and there are finitely many.
+-- Where no procedure that main can reach reaches itself, everything ends: each call leaves a procedure behind that is never called again,
+-- and there are finitely many.
 -- So no guard holds anything back, and every pair of the least solution meets in a run.
 -- Assumes nothing.
 use mathlib.Core.Path.{_≡_, refl, sym, _∙_, ap, subst}

@@ -1,4 +1,5 @@
--- Labels enabled at two places are a derived pair: taking the two contexts apart together, they part at some s₁;s₂ with s₁ parallel, and there rule (10) crosses.
+-- Labels enabled at two places are a derived pair: taking the two contexts apart together, they part at some s₁;s₂ with s₁ parallel, and
+-- there rule (10) crosses.
 -- Assumes nothing.
 use mathlib.Core.Path.{_≡_, refl, subst⁻¹, ap}
 use mathlib.Core.Logic.{_≢_, inl, inr}

@@ -2,7 +2,8 @@
 -- Assumes nothing.
 use mathlib.Core.Path.{_≡_, sym, ap, _∙_, subst}
 use Prim.Native.Nat.{ℕ, zero, suc, _+_, _*_, _/_, _%_, _^_, _<_, min, max}
-use native.Mathlib.Nat.{zero-mul, one-mul, zero-div, zero-mod, div-one, mod-lt, pow-suc, mul-comm, mul-div-cancel, mul-mod-left, div-div-eq-div-mul, div-lt-iff-lt-mul, zero-min, min-eq-right, le-of-suc-le-suc, min-le-left, lt-of-le-of-lt}
+use native.Mathlib.Nat.{zero-mul, one-mul, zero-div, zero-mod, div-one, mod-lt, pow-suc, mul-comm, mul-div-cancel, mul-mod-left, div-div-eq-div-mul}
+use native.Mathlib.Nat.{div-lt-iff-lt-mul, zero-min, min-eq-right, le-of-suc-le-suc, min-le-left, lt-of-le-of-lt}
 use native.Mathlib.Omega.{arith}
 use lib.Dec.{eqb, eqb·zero-suc, eqb·suc-zero, eqb·suc-suc, lit<}
 use lib.Bits.{bitOr, bitAnd, or-shr, or-step, and-shr, and-step}

@@ -1,10 +1,12 @@
--- The number of pairs is the ones of each word with the bits below the label's own masked out: a masked bit is the bit times the test that it stands high enough.
+-- The number of pairs is the ones of each word with the bits below the label's own masked out: a masked bit is the bit times the test that
+-- it stands high enough.
 -- Assumes nothing.
 use mathlib.Core.Path.{_≡_, refl, sym, ap, ap₂, _∙_}
 use mathlib.Core.Bool.{Bool, true, false}
 use mathlib.Core.List.{List}
 use Prim.Native.Nat.{ℕ, zero, suc, _+_, _-_, _*_, _/_, _%_, _^_, _≤_, _<_, min}
-use native.Mathlib.Nat.{zero-mul, one-mul, mul-one, mul-suc, mul-comm, mul-assoc, pow-suc, mul-div-cancel, mul-mod-left, sub-zero, suc-sub-suc, min-eq-left, min-zero, le-of-suc-le-suc, not-suc-le-zero}
+use native.Mathlib.Nat.{zero-mul, one-mul, mul-one, mul-suc, mul-comm, mul-assoc, pow-suc, mul-div-cancel, mul-mod-left, sub-zero, suc-sub-suc}
+use native.Mathlib.Nat.{min-eq-left, min-zero, le-of-suc-le-suc, not-suc-le-zero}
 use native.Mathlib.Decide.{decLe}
 use native.Mathlib.Omega.{arith}
 use lib.Bits.{bitAnd, and-lt}

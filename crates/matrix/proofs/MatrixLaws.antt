@@ -1,10 +1,13 @@
--- Marks after a crossing, a merge and a clearing, and that marks make the matrix: the pair (i,j) is bit j mod 64 of word i * w + j / 64, over the number of words w.
+-- Marks after a crossing, a merge and a clearing, and that marks make the matrix: the pair (i,j) is bit j mod 64 of word i * w + j / 64,
+-- over the number of words w.
 -- Assumes nothing.
 use mathlib.Core.Path.{_≡_, refl, sym, ap, ap₂, _∙_, subst}
 use mathlib.Core.Logic.{⊎-elim}
 use mathlib.Core.List.{List, [], _∷_, _++_}
 use Prim.Native.Nat.{ℕ, zero, suc, _+_, _*_, _/_, _%_, _^_, _≤_, _<_, zero-le, min, max}
-use native.Mathlib.Nat.{le-trans, max-comm, min-comm, suc-mul, mul-zero, mul-le-mul-right, mul-add-div-right, mul-add-mod-self-right, div-eq-of-lt, mod-eq-of-lt, mod-lt, add-zero, div-add-mod', div-lt-iff-lt-mul, lt-of-lt-of-le, eq-zero-or-pos, not-suc-le-zero, le-of-suc-le-suc}
+use native.Mathlib.Nat.{le-trans, max-comm, min-comm, suc-mul, mul-zero, mul-le-mul-right, mul-add-div-right, mul-add-mod-self-right, div-eq-of-lt}
+use native.Mathlib.Nat.{mod-eq-of-lt, mod-lt, add-zero, div-add-mod', div-lt-iff-lt-mul, lt-of-lt-of-le, eq-zero-or-pos, not-suc-le-zero}
+use native.Mathlib.Nat.{le-of-suc-le-suc}
 use native.Mathlib.Decide.{decLt}
 use native.Mathlib.Omega.{arith}
 use lib.Bits.{bitOr, or-lt, or-zero-l}
@@ -177,7 +180,9 @@ marks-make-the-matrix w m n e wm wn beyond same =
         (λ b l. at m b l ∙ same (k / w) (k % w * wordBits + b) label (partner b l) ∙ sym (at n b l))
       where
         some : zero < w
-        some = ⊎-elim (λ z. absurd (not-suc-le-zero (subst (λ (x : ℕ). k < x) (ap (λ (x : ℕ). labelCeiling w * x) z ∙ mul-zero (labelCeiling w)) h))) (λ p. p) (eq-zero-or-pos w)
+        some =
+            let no-word : w ≡ zero → matrixWords w ≡ zero = λ e. ap (λ (x : ℕ). labelCeiling w * x) e ∙ mul-zero (labelCeiling w) in
+            ⊎-elim (λ e. absurd (not-suc-le-zero (subst (λ (x : ℕ). k < x) (no-word e) h))) (λ p. p) (eq-zero-or-pos w)
 
         label : k / w < labelCeiling w
         label = div-lt-iff-lt-mul some .1 h

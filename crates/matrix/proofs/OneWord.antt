@@ -49,7 +49,8 @@ pub crossed-one : (a b : ℕ) (m : List ℕ) → crossed (ours .words) (a ∷ []
 unfolding crossed
 crossed-one a b m =
     changed-alike (matrixWords (ours .words)) _ (crossedWord a b) m
-    (λ k h l. ap₂ (λ (q r : ℕ). bitOr (getD m k 0) (bitOr (member (a ∷ []) q * getD (b ∷ []) r 0) (member (b ∷ []) q * getD (a ∷ []) r 0))) (div-one k) (mod-one k))
+    (λ k h l.
+    ap₂ (λ (q r : ℕ). bitOr (getD m k 0) (bitOr (member (a ∷ []) q * getD (b ∷ []) r 0) (member (b ∷ []) q * getD (a ∷ []) r 0))) (div-one k) (mod-one k))
 
 pub pairs-one : (m : List ℕ) → Words m → pairsAtOrAbove (ours .words) m ≡ sumBelow (labelCeiling (ours .words)) (λ i. ones (bitAnd (getD m i 0) (highMask i)))
 unfolding sumBelow

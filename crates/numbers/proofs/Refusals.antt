@@ -6,7 +6,8 @@ use mathlib.Core.Path.{_≡_, refl, sym, ap₂, _∙_}
 use lib.ListN.{getD}
 use Rattle.numbers.specs.Refusals.{refusalNumber, refusalPlace}
 use Rattle.numbers.specs.declared.Refusal.{Refusal}
-use Rattle.numbers.specs.declared.Refusal.the-variants.{Sizes, ShortMatrix, UnknownKind, WrongOperand, NoSuchRow, UsedAgain, Unused, LongSheet, WrongForm, NoRoom, LongListing}
+use Rattle.numbers.specs.declared.Refusal.the-variants.{Sizes, ShortMatrix, UnknownKind, WrongOperand, NoSuchRow, UsedAgain, Unused, LongSheet}
+use Rattle.numbers.specs.declared.Refusal.the-variants.{WrongForm, NoRoom, LongListing}
 
 -- The refusals at a place, in the order of their numbers from 0. Numbers that no refusal has stand for any.
 listed : ℕ → List Refusal

@@ -1,7 +1,8 @@
 -- The published number and place of each reply that refuses.
 use Prim.Native.Nat.{ℕ}
 use Rattle.numbers.specs.declared.Refusal.{Refusal}
-use Rattle.numbers.specs.declared.Refusal.the-variants.{Sizes, ShortMatrix, UnknownKind, WrongOperand, NoSuchRow, UsedAgain, Unused, LongSheet, WrongForm, NoRoom, LongListing}
+use Rattle.numbers.specs.declared.Refusal.the-variants.{Sizes, ShortMatrix, UnknownKind, WrongOperand, NoSuchRow, UsedAgain, Unused, LongSheet}
+use Rattle.numbers.specs.declared.Refusal.the-variants.{WrongForm, NoRoom, LongListing}
 
 -- The number of a refusal.
 abbrev pub refusalNumber : Refusal → ℕ

@@ -57,7 +57,8 @@ add-sum c =
     let m = c .before .before .before .before .before .args .matrix .now in
     let wm : Words m = λ k. c .before .before .before .before .shared-slice-known .given k .fits in
     let h : l .i < labelCeiling (ours .words) = c .before .before .loop-test .taken in
-    let counted : c .pairs-from .result ≡ ones (bitAnd (getD m (l .i) 0) (highMask (l .i))) = c .pairs-from .ensures ∙ ap (λ (x : ℕ). ones (bitAnd x (highMask (l .i)))) (c .before .word-at .ensures) in
+    let counted : c .pairs-from .result ≡ ones (bitAnd (getD m (l .i) 0) (highMask (l .i))) =
+    c .pairs-from .ensures ∙ ap (λ (x : ℕ). ones (bitAnd x (highMask (l .i)))) (c .before .word-at .ensures) in
     omega (arith, pairs-few m wm (l .i) (l .inv .0), row-few m wm (l .i) h)
 
 add-i : tie.Need-add-i Inv-loop μ-loop
@@ -71,7 +72,8 @@ unfolding pairsBelow sumBelow
 loop-again c =
     let l = c .before .before .before .loop in
     let m = c .before .before .before .before .before .args .matrix .now in
-    let counted : c .pairs-from .result ≡ ones (bitAnd (getD m (l .i) 0) (highMask (l .i))) = c .pairs-from .ensures ∙ ap (λ (x : ℕ). ones (bitAnd x (highMask (l .i)))) (c .before .word-at .ensures) in
+    let counted : c .pairs-from .result ≡ ones (bitAnd (getD m (l .i) 0) (highMask (l .i))) =
+    c .pairs-from .ensures ∙ ap (λ (x : ℕ). ones (bitAnd x (highMask (l .i)))) (c .before .word-at .ensures) in
     (omega arith, ap₂ _+_ (l .inv .1) counted ∙ sym (ap (pairsBelow m) (add-one (l .i))))
 
 returns : tie.Need-returns Inv-loop μ-loop

@@ -14,13 +14,17 @@ bit-of-requires : tie.Need-bit-of-requires
 bit-of-requires c κs = search needs
 
 mul-result : tie.Need-mul-result
-mul-result c = record { fits = rw (c .bit-of .ensures) (times-fits _ (c .before .args .b) (member-lt (c .before .args .a ∷ []) (c .before .args .label .0)) (c .before .fits .b .fits)) }
+mul-result c =
+    let s = c .before in
+    record { fits = rw (c .bit-of .ensures) (times-fits _ (s .args .b) (member-lt (s .args .a ∷ []) (s .args .label .0)) (s .fits .b .fits)) }
 
 bit-of-requires-2 : tie.Need-bit-of-requires-2
 bit-of-requires-2 c κs = search needs
 
 mul-result-2 : tie.Need-mul-result-2
-mul-result-2 c = record { fits = rw (c .bit-of2 .ensures) (times-fits _ (c .before .before .args .a) (member-lt (c .before .before .args .b ∷ []) (c .before .before .args .label .0)) (c .before .before .fits .a .fits)) }
+mul-result-2 c =
+    let s = c .before .before in
+    record { fits = rw (c .bit-of2 .ensures) (times-fits _ (s .args .a) (member-lt (s .args .b ∷ []) (s .args .label .0)) (s .fits .a .fits)) }
 
 returns : tie.Need-returns
 returns c =

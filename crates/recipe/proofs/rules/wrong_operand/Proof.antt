@@ -44,8 +44,8 @@ operands-right-requires c κs = tt
 
 returns : tie.Need-returns Inv-loop μ-loop
 returns c =
-    let head = c .before .before .before .before .before .before in
-    passed-found _ _ _ (head .loop .inv) (ap not (sym (c .before .operands-right .ensures)) ∙ c .if1 .taken)
+    let turn = c .before .before .before .before .before in
+    passed-found _ _ _ (turn .before .loop .inv) (ap not (sym (c .before .operands-right .ensures)) ∙ c .if1 .taken)
 
 add-i : tie.Need-add-i Inv-loop μ-loop
 add-i c = omega arith

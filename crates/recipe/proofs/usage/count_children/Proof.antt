@@ -1,22 +1,20 @@
 -- `recipe::usage::count_children` meets its contract: after i turns the counters hold the uses by the first i rows.
 -- Assumes nothing.
 use Prim.Native.Nat.{_≤_, _-_}
-use mathlib.Core.List.{[]}
 use mathlib.Core.Path.{_≡_, sym}
 use lib.ListN.{length}
 use denote.Ref.{now}
 use native.Mathlib.Omega.{arith}
 use Rattle.numbers.specs.General.{sumBelow}
-use Rattle.recipe.specs.Tables.{tableOf}
 use Rattle.recipe.specs.Rules.{childUses}
-use Rattle.recipe.specs.Inner.{Counts}
+use Rattle.recipe.specs.Inner.{Counts, rowsAlone}
 use Rattle.numbers.proofs.SumLaws.{sum-next}
 use Rattle.recipe.proofs.Counters.{counts-same}
 use Rattle.recipe.proofs.usage.count_children.Statement.{statement}
 use Rattle.recipe.proofs.usage.count_children.Tie as tie
 
 abbrev Inv-loop : tie.InvT-loop
-Inv-loop counts₀ kinds xs ys i₀ counts i = (i ≤ length kinds) × Counts counts (childUses (tableOf kinds xs ys []) i)
+Inv-loop counts₀ kinds xs ys i₀ counts i = (i ≤ length kinds) × Counts counts (childUses (rowsAlone kinds xs ys) i)
 
 abbrev μ-loop : tie.MeasureT-loop
 μ-loop counts₀ kinds xs ys i₀ counts i = length kinds - i
@@ -54,8 +52,8 @@ loop-less c = omega arith
 
 loop-again : tie.Need-loop-again Inv-loop μ-loop
 loop-again c =
-    let head = c .before .before .before .before .before .before in
-    (omega arith, counts-same (c .count-row .last .0) _ _ (λ i. sym (sum-next _ _)) (c .count-row .ensures _ (head .loop .inv .1)))
+    let turn = c .before .before .before .before .before in
+    (omega arith, counts-same (c .count-row .last .0) _ _ (λ i. sym (sum-next _ _)) (c .count-row .ensures _ (turn .before .loop .inv .1)))
 
 returns : tie.Need-returns Inv-loop μ-loop
 returns c =

@@ -1,23 +1,21 @@
 -- `recipe::usage::count_roots` meets its contract: after f turns the counters hold the uses as the first f roots besides.
 -- Assumes nothing.
 use Prim.Native.Nat.{ℕ, _+_, _≤_, _-_}
-use mathlib.Core.List.{[]}
 use mathlib.Core.Path.{_≡_, sym, ap, _∙_}
 use lib.ListN.{length}
 use denote.Ref.{now}
 use native.Mathlib.Nat.{add-zero, add-assoc}
 use native.Mathlib.Omega.{arith}
 use Rattle.numbers.specs.General.{sumBelow}
-use Rattle.recipe.specs.Tables.{tableOf}
 use Rattle.recipe.specs.Rules.{rootUses}
-use Rattle.recipe.specs.Inner.{Counts}
+use Rattle.recipe.specs.Inner.{Counted, rootsAlone}
 use Rattle.numbers.proofs.SumLaws.{sum-next}
 use Rattle.recipe.proofs.Counters.{counts-same}
 use Rattle.recipe.proofs.usage.count_roots.Statement.{statement}
 use Rattle.recipe.proofs.usage.count_roots.Tie as tie
 
 abbrev Inv-loop : tie.InvT-loop
-Inv-loop counts₀ roots f₀ counts f = (f ≤ length roots) × ((met : ℕ → ℕ) → Counts counts₀ met → Counts counts (λ i. met i + rootUses (tableOf [] [] [] roots) f i))
+Inv-loop counts₀ roots f₀ counts f = (f ≤ length roots) × Counted counts₀ counts (rootUses (rootsAlone roots) f)
 
 abbrev μ-loop : tie.MeasureT-loop
 μ-loop counts₀ roots f₀ counts f = length roots - f
