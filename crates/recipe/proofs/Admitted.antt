@@ -1,6 +1,7 @@
 -- What is known of an admitted table: the judge passed every rule, so no place breaks any.
 -- Assumes nothing.
 use Prim.Native.Nat.{ℕ, _≤_, _<_}
+use mathlib.Core.List.{[]}
 use mathlib.Core.Path.{_≡_, refl, sym, ap, _∙_, subst}
 use mathlib.Core.Bool.{Bool, true, false, not, _&&_}
 use native.Mathlib.Omega.{arith}
@@ -10,13 +11,13 @@ use lib.ListN.{length}
 use Rattle.numbers.specs.Sizes.{Size, labelCeiling}
 use Rattle.recipe.specs.Tables.{Table, kindOf, rows, procs, kindAt, xAt, yAt, rootAt}
 use Rattle.numbers.specs.General.{lowest}
-use Rattle.recipe.specs.Rules.{sizesFit, kindUnknown, operandsRight, operandWrong, rootMissing, uses, usedAgain, unused, admitted}
+use Rattle.recipe.specs.Rules.{sizesFit, kindUnknown, operandsRight, operandWrong, rootMissing, uses, usedAgain, unused, judgedBy, admitted}
 use Rattle.recipe.specs.Statements.{Child}
 use Rattle.recipe.specs.declared.Judged.the-variants.{Admitted}
 use Rattle.numbers.proofs.LowestLaws.{none-at-all, lowest-none}
 use Rattle.recipe.proofs.Operands.{and-first, and-second, child-before}
 use Rattle.recipe.specs.Offences.{RightSizes, KeepsRules}
-use Rattle.recipe.proofs.Judging.{sized, sizes-test, passed-if-admitted, passed-on, fromOperands, fromRoots, fromUsedAgain, fromUnused}
+use Rattle.recipe.proofs.Judging.{sized, sizes-test, passed-if-admitted, passed-on, all-passed, fromOperands, fromRoots, fromUsedAgain, fromUnused}
 use Rattle.recipe.proofs.Judging.{sizes-passed, sizes-refused}
 
 module _ (z : Size) (t : Table) (ok : admitted z t) where
@@ -29,19 +30,19 @@ module _ (z : Size) (t : Table) (ok : admitted z t) where
       go false e = let h = sym (sizes-refused z t e) ∙ ok in let n : _≡_ {A = ℕ} 0 1 = cc in absurd (omega arith)
 
   past-kinds : (rows t ≤ lowest (rows t) (λ i. kindUnknown (kindAt t i))) × (fromOperands z t ≡ Admitted)
-  past-kinds = passed-if-admitted _ _ _ _ (sym (sizes-passed z t right-sizes) ∙ ok)
+  past-kinds = passed-if-admitted _ _ (sym (sizes-passed z t right-sizes) ∙ ok)
 
   past-operands : (rows t ≤ lowest (rows t) (operandWrong z t)) × (fromRoots z t ≡ Admitted)
-  past-operands = passed-if-admitted _ _ _ _ (past-kinds .1)
+  past-operands = passed-if-admitted _ _ (past-kinds .1)
 
   past-roots : (procs t ≤ lowest (procs t) (λ f. rootMissing (rows t) (rootAt t f))) × (fromUsedAgain z t ≡ Admitted)
-  past-roots = passed-if-admitted _ _ _ _ (past-operands .1)
+  past-roots = passed-if-admitted _ _ (past-operands .1)
 
   past-used-again : (rows t ≤ lowest (rows t) (usedAgain t)) × (fromUnused z t ≡ Admitted)
-  past-used-again = passed-if-admitted _ _ _ _ (past-roots .1)
+  past-used-again = passed-if-admitted _ _ (past-roots .1)
 
-  past-unused : (rows t ≤ lowest (rows t) (unused t)) × (Admitted ≡ Admitted)
-  past-unused = passed-if-admitted _ _ _ _ (past-used-again .1)
+  past-unused : (rows t ≤ lowest (rows t) (unused t)) × (judgedBy [] ≡ Admitted)
+  past-unused = passed-if-admitted _ _ (past-used-again .1)
 
   -- The lengths match and lie within the ceilings.
   pub sizes-right : RightSizes z (rows t) (length (t .xs)) (length (t .ys)) (procs t)
@@ -127,8 +128,9 @@ pub kept-admitted : (z : Size) (t : Table) → KeepsRules z t → admitted z t
 kept-admitted z t k =
     let n = rows t in
     sizes-passed z t (sizes-test (k .sizes))
-    ∙ passed-on n _ _ _ n (lowest-none n _ (λ i l. le-ltb 6 (kindAt t i) (k .kinds i l))) (omega arith)
-    ∙ passed-on n _ _ _ n (lowest-none n _ (λ i l. ap not (k .operands i l))) (omega arith)
-    ∙ passed-on (procs t) _ _ _ (procs t) (lowest-none (procs t) _ (λ f l. lt-leb n (rootAt t f) (k .roots f l))) (omega arith)
-    ∙ passed-on n _ _ _ n (lowest-none n _ (λ i l. le-ltb 1 (uses t i) (omega (arith, k .once i l)))) (omega arith)
-    ∙ passed-on n _ _ _ n (lowest-none n _ (λ i l. ne-eqb (uses t i) 0 (λ (e : uses t i ≡ 0). omega (arith, k .once i l)))) (omega arith)
+    ∙ passed-on _ _ n (lowest-none n _ (λ i l. le-ltb 6 (kindAt t i) (k .kinds i l))) (omega arith)
+    ∙ passed-on _ _ n (lowest-none n _ (λ i l. ap not (k .operands i l))) (omega arith)
+    ∙ passed-on _ _ (procs t) (lowest-none (procs t) _ (λ f l. lt-leb n (rootAt t f) (k .roots f l))) (omega arith)
+    ∙ passed-on _ _ n (lowest-none n _ (λ i l. le-ltb 1 (uses t i) (omega (arith, k .once i l)))) (omega arith)
+    ∙ passed-on _ _ n (lowest-none n _ (λ i l. ne-eqb (uses t i) 0 (λ (e : uses t i ≡ 0). omega (arith, k .once i l)))) (omega arith)
+    ∙ all-passed

@@ -7,7 +7,7 @@ use Rattle.numbers.specs.Sizes.{ours}
 use Rattle.numbers.specs.General.{sumBelow, lowest}
 use Rattle.calculus.specs.Syntax.{Stmt}
 use Rattle.recipe.specs.Tables.{Table, tableOf}
-use Rattle.recipe.specs.Rules.{sizesRight, operandsRight, usesBy, refusedAt, judged, admitted}
+use Rattle.recipe.specs.Rules.{sizesRight, operandsRight, usesBy, judgedBy, judged, admitted}
 use Rattle.recipe.specs.Statements.{rowStatement, statementTo, statementAt, programOf}
 use Rattle.numbers.specs.declared.Refusal.the-variants.{Sizes, UnknownKind, WrongOperand, NoSuchRow, UsedAgain, Unused}
 use Rattle.recipe.specs.declared.Judged.the-variants.{Refused}
@@ -35,8 +35,18 @@ limits :
     × (judged ours (two 0 0 0 1) ≡ Refused (Unused (record { 0 = 0 })))
     × (judged ours (tableOf [] [] [] []) ≡ Refused Sizes)
     × (judged ours (tableOf (0 ∷ []) [] (0 ∷ []) (0 ∷ [])) ≡ Refused Sizes)
-unfolding judged refusedAt lowest sizesRight operandsRight usesBy sumBelow
+unfolding judged judgedBy lowest sizesRight operandsRight usesBy sumBelow
 limits = (refl, refl, refl, refl, refl, refl, refl, refl, refl, refl, refl, refl, refl)
+
+-- Where two rules are broken the first of the list decides, wherever the other is broken: here the operand of row 0 and the kind of row 1.
+order : judged ours (tableOf (0 ∷ 7 ∷ []) (1 ∷ 0 ∷ []) (0 ∷ 0 ∷ []) (0 ∷ [])) ≡ Refused (UnknownKind (record { 0 = 1 }))
+unfolding judged judgedBy lowest sizesRight operandsRight usesBy sumBelow
+order = refl
+
+-- Of two rows that break a rule the lower one is named.
+lower : judged ours (tableOf (0 ∷ 0 ∷ []) (1 ∷ 1 ∷ []) (0 ∷ 0 ∷ []) (0 ∷ [])) ≡ Refused (WrongOperand (record { 0 = 0 }))
+unfolding judged judgedBy lowest sizesRight operandsRight usesBy sumBelow
+lower = refl
 
 -- A table with each of the seven kinds: main is async {step 0}; step 1, then come call 1 and finish {loop {skip}}.
 abbrev seven : Table
@@ -45,7 +55,7 @@ seven =
     (0 ∷ 0 ∷ 0 ∷ 2 ∷ 0 ∷ 0 ∷ 0 ∷ 0 ∷ []) (3 ∷ 4 ∷ 7 ∷ [])
 
 seven-admitted : admitted ours seven
-unfolding judged refusedAt lowest sizesRight operandsRight usesBy sumBelow
+unfolding judged judgedBy lowest sizesRight operandsRight usesBy sumBelow
 seven-admitted = refl
 
 seven-read :

@@ -1,19 +1,19 @@
--- How the judge's definition is taken step by step: a rule that some place breaks ends it at the lowest such place, and a rule
+-- How the judge's definition is taken rule by rule: a rule that some place breaks ends it at the lowest such place, and a rule
 -- that no place breaks leaves it to the next. Assumes nothing.
-use Prim.Native.Nat.{ℕ, _≤_, _<_}
-use mathlib.Core.Path.{_≡_, refl, sym, ap, _∙_}
 use mathlib.Core.Bool.{Bool, true, false, cond, not, _&&_}
+use mathlib.Core.List.{List, [], _∷_}
+use mathlib.Core.Path.{_≡_, refl, sym, ap, _∙_}
+use Prim.Native.Nat.{ℕ, _≤_, _<_}
 use native.Mathlib.Omega.{arith}
 use borrow.Author.Tests.{lt-ltb, le-ltb, le-leb, eq-eqb, ltb-false, leb-true, eqb-true}
 use lib.Dec.{ltb, leb, eqb}
-use lib.ListN.{length}
-use Rattle.numbers.specs.Sizes.{Size, rowCeiling}
-use Rattle.recipe.specs.Tables.{Table, rows, procs, kindAt, rootAt}
-use Rattle.recipe.specs.Offences.{RightSizes}
 use Rattle.numbers.specs.General.{lowest}
-use Rattle.recipe.specs.Rules.{fromOneTo, sizesRight, sizesFit, kindUnknown, operandWrong, rootMissing, usedAgain, unused, refusedAt, judged}
+use Rattle.numbers.specs.Sizes.{Size, rowCeiling}
 use Rattle.numbers.specs.declared.Refusal.{Refusal}
-use Rattle.numbers.specs.declared.Refusal.the-variants.{UnknownKind, WrongOperand, NoSuchRow, UsedAgain, Unused, Sizes}
+use Rattle.numbers.specs.declared.Refusal.the-variants.{Sizes}
+use Rattle.recipe.specs.Tables.{Table}
+use Rattle.recipe.specs.Offences.{RightSizes}
+use Rattle.recipe.specs.Rules.{fromOneTo, sizesRight, sizesFit, Rule, operandRule, rootRule, onceRule, usedRule, furtherRules, judgedBy, judged}
 use Rattle.recipe.specs.declared.Judged.{Judged}
 use Rattle.recipe.specs.declared.Judged.the-variants.{Admitted, Refused}
 use Rattle.recipe.proofs.Operands.{and-first, and-second}
@@ -47,50 +47,71 @@ sizes-test s =
       eq-eqb _ _ (s .ys-match),
     )
 
-module _ (n : ℕ) (test : ℕ → Bool) (refusal : ℕ → Refusal) (next : Judged) where
+module _ (r : Rule) (more : List Rule) where
+  abbrev place : ℕ
+  place = lowest (r .places) (r .breaks)
+
+  by-test : (b : Bool) → ltb place (r .places) ≡ b → judgedBy (r ∷ more) ≡ cond b (Refused (r .refusal place)) (judgedBy more)
+  unfolding judgedBy
+  by-test b e = ap (λ (x : Bool). cond x (Refused (r .refusal place)) (judgedBy more)) e
+
   -- A place that breaks the rule ends the judgement.
-  pub refused-at : (i : ℕ) → i ≡ lowest n test → i < n → refusedAt n test refusal next ≡ Refused (refusal i)
-  unfolding refusedAt
-  refused-at i e l =
-      ap (λ (b : Bool). cond b (Refused (refusal (lowest n test))) next) (lt-ltb (lowest n test) n (omega arith))
-      ∙ ap (λ (k : ℕ). Refused (refusal k)) (sym e)
+  pub refused-at : (i : ℕ) → i ≡ place → i < r .places → judgedBy (r ∷ more) ≡ Refused (r .refusal i)
+  refused-at i e l = by-test true (lt-ltb place (r .places) (omega arith)) ∙ ap (λ (k : ℕ). Refused (r .refusal k)) (sym e)
 
   -- Without such a place the next rule decides.
-  pub passed-on : (i : ℕ) → i ≡ lowest n test → n ≤ i → refusedAt n test refusal next ≡ next
-  unfolding refusedAt
-  passed-on i e l = ap (λ (b : Bool). cond b (Refused (refusal (lowest n test))) next) (le-ltb (lowest n test) n (omega arith))
+  pub passed-on : (i : ℕ) → i ≡ place → r .places ≤ i → judgedBy (r ∷ more) ≡ judgedBy more
+  passed-on i e l = by-test false (le-ltb place (r .places) (omega arith))
 
   -- A table is admitted only past the rule.
-  pub passed-if-admitted : refusedAt n test refusal next ≡ Admitted → (n ≤ lowest n test) × (next ≡ Admitted)
-  unfolding refusedAt
-  passed-if-admitted = go (ltb (lowest n test) n) refl
+  pub passed-if-admitted : judgedBy (r ∷ more) ≡ Admitted → (r .places ≤ place) × (judgedBy more ≡ Admitted)
+  passed-if-admitted h = go (ltb place (r .places)) refl
     where
-      go : (b : Bool) → ltb (lowest n test) n ≡ b
-          → cond b (Refused (refusal (lowest n test))) next ≡ Admitted → (n ≤ lowest n test) × (next ≡ Admitted)
-      go true e h = let z : _≡_ {A = ℕ} 0 1 = cc in absurd (omega arith)
-      go false e h = (ltb-false (lowest n test) n e, h)
+      go : (b : Bool) → ltb place (r .places) ≡ b → (r .places ≤ place) × (judgedBy more ≡ Admitted)
+      go true e = let n : _≡_ {A = ℕ} 0 1 = cc (by-test true e) in absurd (omega arith)
+      go false e = (ltb-false place (r .places) e, sym (by-test false e) ∙ h)
+
+-- A rule on the table as a whole.
+module _ (why : Refusal) (more : List Rule) where
+  abbrev whole : Bool → Rule
+  whole broken = record { places = 1; breaks = λ i. broken; refusal = λ i. why }
+
+  pub whole-broken : (b : Bool) → b ≡ true → judgedBy (whole b ∷ more) ≡ Refused why
+  unfolding judgedBy lowest
+  whole-broken true e = refl
+  whole-broken false e = let n : _≡_ {A = ℕ} 0 1 = cc in absurd (omega arith)
+
+  pub whole-kept : (b : Bool) → b ≡ false → judgedBy (whole b ∷ more) ≡ judgedBy more
+  unfolding judgedBy lowest
+  whole-kept false e = refl
+  whole-kept true e = let n : _≡_ {A = ℕ} 0 1 = cc in absurd (omega arith)
 
 module _ (z : Size) (t : Table) where
   -- What is left of the judgement from each rule on.
   abbrev pub fromUnused : Judged
-  fromUnused = refusedAt (rows t) (unused t) (λ i. Unused (record { 0 = i })) Admitted
+  fromUnused = judgedBy (usedRule t ∷ [])
 
   abbrev pub fromUsedAgain : Judged
-  fromUsedAgain = refusedAt (rows t) (usedAgain t) (λ i. UsedAgain (record { 0 = i })) fromUnused
+  fromUsedAgain = judgedBy (onceRule t ∷ usedRule t ∷ [])
 
   abbrev pub fromRoots : Judged
-  fromRoots = refusedAt (procs t) (λ f. rootMissing (rows t) (rootAt t f)) (λ f. NoSuchRow (record { 0 = f })) fromUsedAgain
+  fromRoots = judgedBy (rootRule t ∷ onceRule t ∷ usedRule t ∷ [])
 
   abbrev pub fromOperands : Judged
-  fromOperands = refusedAt (rows t) (operandWrong z t) (λ i. WrongOperand (record { 0 = i })) fromRoots
+  fromOperands = judgedBy (operandRule z t ∷ rootRule t ∷ onceRule t ∷ usedRule t ∷ [])
 
   abbrev pub fromKinds : Judged
-  fromKinds = refusedAt (rows t) (λ i. kindUnknown (kindAt t i)) (λ i. UnknownKind (record { 0 = i })) fromOperands
+  fromKinds = judgedBy (furtherRules z t)
 
   pub sizes-refused : sizesFit z t ≡ false → judged z t ≡ Refused Sizes
   unfolding judged
-  sizes-refused h = rw h
+  sizes-refused h = whole-broken Sizes (furtherRules z t) (not (sizesFit z t)) (ap not h)
 
   pub sizes-passed : sizesFit z t ≡ true → judged z t ≡ fromKinds
   unfolding judged
-  sizes-passed h = ap (λ (b : Bool). cond (not b) (Refused Sizes) fromKinds) h
+  sizes-passed h = whole-kept Sizes (furtherRules z t) (not (sizesFit z t)) (ap not h)
+
+-- Nothing is left to refuse once every rule is passed.
+pub all-passed : judgedBy [] ≡ Admitted
+unfolding judgedBy
+all-passed = refl

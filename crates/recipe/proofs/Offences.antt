@@ -1,64 +1,64 @@
 -- The judge refuses exactly as the list of refusals says, since its definition tries one rule after the other, each over the whole table.
 -- Assumes nothing.
-use mathlib.Core.Bool.{Bool, true, false, cond}
+use mathlib.Core.Bool.{Bool, true, false}
+use mathlib.Core.List.{List, [], _∷_}
 use mathlib.Core.Path.{_≡_, refl, sym, _∙_, subst}
-use Prim.Native.Nat.{ℕ, _<_}
+use Prim.Native.Nat.{ℕ}
 use native.Mathlib.Omega.{arith}
 use borrow.Author.Tests.{ltb-true, ltb-false}
 use lib.Dec.{ltb}
+use Rattle.numbers.specs.General.{lowest}
 use Rattle.numbers.specs.Sizes.{Size}
 use Rattle.numbers.specs.declared.Refusal.{Refusal}
-use Rattle.numbers.specs.declared.Refusal.the-variants.{Sizes}
-use Rattle.recipe.specs.Offences.{First, Nowhere, Refuses}
-use Rattle.numbers.specs.General.{lowest}
-use Rattle.recipe.specs.Rules.{sizesFit, refusedAt, judged}
-use Rattle.recipe.specs.Tables.{Table, rows, procs}
-use Rattle.recipe.specs.declared.Judged.{Judged}
-use Rattle.recipe.specs.declared.Judged.the-variants.{Refused}
-use Rattle.recipe.proofs.Judging.{refused-at, passed-on, sizes-refused, sizes-passed}
 use Rattle.numbers.proofs.LowestLaws.{lowest-is, lowest-passes, lowest-none, none-below, none-at-all}
+use Rattle.recipe.specs.Offences.{Refuses}
+use Rattle.recipe.specs.Rules.{Rule, rulesOf, rulesWith, judgedBy, judged, judgedWith}
+use Rattle.recipe.specs.Tables.{Table}
+use Rattle.recipe.specs.declared.Judged.the-variants.{Refused}
+use Rattle.recipe.proofs.Judging.{refused-at, passed-on, all-passed}
 
--- ---- one rule: it ends the judgement at its lowest place, or leaves it to the next
+-- ---- of any rules
 
-module _ (n : ℕ) (test : ℕ → Bool) (refusal : ℕ → Refusal) (next : Judged) where
-  ends : {i : ℕ} → First n test i → refusedAt n test refusal next ≡ Refused (refusal i)
-  ends {i} f = refused-at n test refusal next i (lowest-is n test i (omega (arith, f .there)) (f .before) (λ _. f .passes)) (f .there)
+abbrev place : Rule → ℕ
+place r = lowest (r .places) (r .breaks)
 
-  passes-on : Nowhere n test → refusedAt n test refusal next ≡ next
-  passes-on none = passed-on n test refusal next n (lowest-none n test none) (omega arith)
-
-  by-rule :
-      {A : Type 0} (r : Refusal) → refusedAt n test refusal next ≡ Refused r
-      → ((i : ℕ) → First n test i → refusal i ≡ r → A) → (Nowhere n test → next ≡ Refused r → A) → A
-  unfolding refusedAt
-  by-rule {A} r h found none = go (ltb (lowest n test) n) refl h
-    where
-      go : (b : Bool) → ltb (lowest n test) n ≡ b → cond b (Refused (refusal (lowest n test))) next ≡ Refused r → A
-      go true e p =
-          let l : lowest n test < n = ltb-true (lowest n test) n e in
-          found (lowest n test) (record { there = l; passes = lowest-passes n test l; before = none-below n test }) cc
-      go false e p = none (none-at-all n test (ltb-false (lowest n test) n e)) p
-
--- ---- the whole judgement
-
-pub refused-means : (z : Size) (t : Table) (r : Refusal) → judged z t ≡ Refused r → Refuses z t r
-refused-means z t r h = go (sizesFit z t) refl
+refuses-of : (rules : List Rule) (why : Refusal) → judgedBy rules ≡ Refused why → Refuses rules why
+refuses-of [] why h = let n : _≡_ {A = ℕ} 0 1 = cc (all-passed) in absurd (omega arith)
+refuses-of (r ∷ more) why h = go (ltb (place r) (r .places)) refl (refuses-of more why)
   where
-    go : (b : Bool) → sizesFit z t ≡ b → Refuses z t r
-    go false e = let q : Sizes ≡ r = cc (sizes-refused z t e) in subst (Refuses z t) q (Refuses.sizes e)
-    go true e =
-        by-rule _ _ _ _ r (sym (sizes-passed z t e) ∙ h) (λ i f q. subst (Refuses z t) q (Refuses.kind e f)) (λ kinds h₁.
-        by-rule _ _ _ _ r h₁ (λ i f q. subst (Refuses z t) q (Refuses.operand e kinds f)) (λ operands h₂.
-        by-rule _ _ _ _ r h₂ (λ f g q. subst (Refuses z t) q (Refuses.root e kinds operands g)) (λ roots h₃.
-        by-rule _ _ _ _ r h₃ (λ i f q. subst (Refuses z t) q (Refuses.again e kinds operands roots f)) (λ once h₄.
-        by-rule _ _ _ _ r h₄ (λ i f q. subst (Refuses z t) q (Refuses.nobody e kinds operands roots once f)) (λ used h₅.
-        let e : _≡_ {A = ℕ} 0 1 = cc in absurd (omega arith))))))
+    go : (b : Bool) → ltb (place r) (r .places) ≡ b → (judgedBy more ≡ Refused why → Refuses more why) → Refuses (r ∷ more) why
+    go true e rest =
+        let l = ltb-true (place r) (r .places) e in
+        let same : r .refusal (place r) ≡ why = cc (refused-at r more (place r) refl l) in
+        subst (Refuses (r ∷ more)) same
+        (Refuses.here
+        (record { there = l; passes = lowest-passes (r .places) (r .breaks) l; before = none-below (r .places) (r .breaks) }))
+    go false e rest =
+        let l = ltb-false (place r) (r .places) e in
+        Refuses.later (none-at-all (r .places) (r .breaks) l) (rest (sym (passed-on r more (place r) refl l) ∙ h))
 
-pub means-refused : (z : Size) (t : Table) (r : Refusal) → Refuses z t r → judged z t ≡ Refused r
-means-refused z t _ (Refuses.sizes e) = sizes-refused z t e
-means-refused z t _ (Refuses.kind e f) = sizes-passed z t e ∙ ends _ _ _ _ f
-means-refused z t _ (Refuses.operand e k f) = sizes-passed z t e ∙ passes-on _ _ _ _ k ∙ ends _ _ _ _ f
-means-refused z t _ (Refuses.root e k o f) = sizes-passed z t e ∙ passes-on _ _ _ _ k ∙ passes-on _ _ _ _ o ∙ ends _ _ _ _ f
-means-refused z t _ (Refuses.again e k o r f) = sizes-passed z t e ∙ passes-on _ _ _ _ k ∙ passes-on _ _ _ _ o ∙ passes-on _ _ _ _ r ∙ ends _ _ _ _ f
-means-refused z t _ (Refuses.nobody e k o r a f) =
-    sizes-passed z t e ∙ passes-on _ _ _ _ k ∙ passes-on _ _ _ _ o ∙ passes-on _ _ _ _ r ∙ passes-on _ _ _ _ a ∙ ends _ _ _ _ f
+of-refuses : {rules : List Rule} {why : Refusal} → Refuses rules why → judgedBy rules ≡ Refused why
+of-refuses (Refuses.here {r = r} {more = more} {i = i} f) =
+    refused-at r more i (lowest-is (r .places) (r .breaks) i (omega (arith, f .there)) (f .before) (λ _. f .passes)) (f .there)
+of-refuses (Refuses.later {r = r} {more = more} none rest) =
+    passed-on r more (r .places) (lowest-none (r .places) (r .breaks) none) (omega arith) ∙ of-refuses rest
+
+-- ---- of a table
+
+module _ (z : Size) (t : Table) (why : Refusal) where
+  pub refused-means : judged z t ≡ Refused why → Refuses (rulesOf z t) why
+  unfolding judged
+  refused-means = refuses-of (rulesOf z t) why
+
+  pub means-refused : Refuses (rulesOf z t) why → judged z t ≡ Refused why
+  unfolding judged
+  means-refused = of-refuses
+
+  -- the same with a lent matrix
+  pub refused-with-means : (words : ℕ) → judgedWith z t words ≡ Refused why → Refuses (rulesWith z t words) why
+  unfolding judgedWith
+  refused-with-means words = refuses-of (rulesWith z t words) why
+
+  pub means-refused-with : (words : ℕ) → Refuses (rulesWith z t words) why → judgedWith z t words ≡ Refused why
+  unfolding judgedWith
+  means-refused-with words = of-refuses

@@ -2,6 +2,7 @@
 use Prim.Native.Nat.{ℕ, _+_}
 use mathlib.Core.Path.{_≡_}
 use mathlib.Core.Bool.{Bool, false, cond, not, _&&_}
+use mathlib.Core.List.{List, [], _∷_}
 use lib.ListN.{length}
 use lib.Dec.{eqb, ltb, leb}
 use Rattle.numbers.specs.General.{oneIf, sumBelow, lowest}
@@ -78,24 +79,67 @@ usedAgain t i = ltb 1 (uses t i)
 abbrev pub unused : Table → ℕ → Bool
 unused t i = eqb (uses t i) 0
 
--- The refusal of the lowest place below n at which the test passes, and the next reply where it passes nowhere.
-unfoldable pub refusedAt : ℕ → (ℕ → Bool) → (ℕ → Refusal) → Judged → Judged
-refusedAt n test refusal next = cond (ltb (lowest n test) n) (Refused (refusal (lowest n test))) next
+-- A rule of a table: how many places it has, whether a place breaks it, and the refusal of such a place.
+pub record Rule : Type 0 where
+  pub places : ℕ
+  pub breaks : ℕ → Bool
+  pub refusal : ℕ → Refusal
 
--- What the judge replies: each rule is tried over the whole table before the next.
+-- The sizes are right.
+abbrev pub sizesRule : Size → Table → Rule
+sizesRule z t = record { places = 1; breaks = λ i. not (sizesFit z t); refusal = λ i. Sizes }
+
+-- A lent matrix of so many words is whole.
+abbrev pub matrixRule : Size → ℕ → Rule
+matrixRule z words = record { places = 1; breaks = λ i. ltb words (matrixWords (z .words)); refusal = λ i. ShortMatrix }
+
+-- Each kind is one of the seven.
+abbrev pub kindRule : Table → Rule
+kindRule t = record { places = rows t; breaks = λ i. kindUnknown (kindAt t i); refusal = λ i. UnknownKind (record { 0 = i }) }
+
+-- Each row has operands that suit its kind.
+abbrev pub operandRule : Size → Table → Rule
+operandRule z t = record { places = rows t; breaks = operandWrong z t; refusal = λ i. WrongOperand (record { 0 = i }) }
+
+-- Each root is a row.
+abbrev pub rootRule : Table → Rule
+rootRule t = record { places = procs t; breaks = λ f. rootMissing (rows t) (rootAt t f); refusal = λ f. NoSuchRow (record { 0 = f }) }
+
+-- No row is used more than once.
+abbrev pub onceRule : Table → Rule
+onceRule t = record { places = rows t; breaks = usedAgain t; refusal = λ i. UsedAgain (record { 0 = i }) }
+
+-- No row is used by nobody.
+abbrev pub usedRule : Table → Rule
+usedRule t = record { places = rows t; breaks = unused t; refusal = λ i. Unused (record { 0 = i }) }
+
+-- What is tried once the sizes are right, in this order.
+abbrev pub furtherRules : Size → Table → List Rule
+furtherRules z t = kindRule t ∷ operandRule z t ∷ rootRule t ∷ onceRule t ∷ usedRule t ∷ []
+
+-- The rules of a table.
+abbrev pub rulesOf : Size → Table → List Rule
+rulesOf z t = sizesRule z t ∷ furtherRules z t
+
+-- The rules of a table that comes with a lent matrix of so many words.
+abbrev pub rulesWith : Size → Table → ℕ → List Rule
+rulesWith z t words = sizesRule z t ∷ matrixRule z words ∷ furtherRules z t
+
+-- The reply where rules are tried one after the other, each over all its places: the first that is broken refuses its lowest place.
+unfoldable pub judgedBy : List Rule → Judged
+judgedBy [] = Admitted
+judgedBy (r ∷ more) =
+    let place = lowest (r .places) (r .breaks) in
+    cond (ltb place (r .places)) (Refused (r .refusal place)) (judgedBy more)
+
+-- What the judge replies to a table.
 unfoldable pub judged : Size → Table → Judged
-judged z t =
-    cond (not (sizesFit z t)) (Refused Sizes)
-    (refusedAt (rows t) (λ i. kindUnknown (kindAt t i)) (λ i. UnknownKind (record { 0 = i }))
-    (refusedAt (rows t) (operandWrong z t) (λ i. WrongOperand (record { 0 = i }))
-    (refusedAt (procs t) (λ f. rootMissing (rows t) (rootAt t f)) (λ f. NoSuchRow (record { 0 = f }))
-    (refusedAt (rows t) (usedAgain t) (λ i. UsedAgain (record { 0 = i }))
-    (refusedAt (rows t) (unused t) (λ i. Unused (record { 0 = i })) Admitted)))))
+judged z t = judgedBy (rulesOf z t)
+
+-- What it replies for whoever is lent a matrix of so many words.
+unfoldable pub judgedWith : Size → Table → ℕ → Judged
+judgedWith z t words = judgedBy (rulesWith z t words)
 
 -- The table is admitted.
 abbrev pub admitted : Size → Table → Type 0
 admitted z t = judged z t ≡ Admitted
-
--- The judge's reply, where a matrix that is too short is refused after wrong sizes and before all else.
-unfoldable pub judgedWith : Size → Table → ℕ → Judged
-judgedWith z t words = cond (sizesFit z t && ltb words (matrixWords (z .words))) (Refused ShortMatrix) (judged z t)

@@ -17,7 +17,7 @@ use Rattle.numbers.proofs.LowestLaws.{none-at-all}
 use Rattle.recipe.proofs.Operands.{child-before}
 use Rattle.recipe.proofs.Counters.{counts-none, lowest-at-two, lowest-at-zero}
 use Rattle.recipe.specs.Offences.{RightSizes}
-use Rattle.recipe.proofs.Judging.{sized, refused-at, passed-on, fromKinds, fromOperands, fromRoots, fromUsedAgain, fromUnused, sizes-refused}
+use Rattle.recipe.proofs.Judging.{sized, refused-at, passed-on, all-passed, fromKinds, fromOperands, fromRoots, fromUsedAgain, fromUnused, sizes-refused}
 use Rattle.recipe.proofs.Judging.{sizes-passed}
 use Rattle.recipe.proofs.judge.Statement.{statement}
 use Rattle.recipe.proofs.judge.Tie as tie
@@ -73,13 +73,13 @@ to-kinds : (c : tie.Else1) → judged ours (past-sizes c) ≡ fromKinds ours (pa
 to-kinds c = sizes-passed ours (past-sizes c) (right-sizes c)
 
 to-operands : (c : tie.Else2) → judged ours (past-kinds c) ≡ fromOperands ours (past-kinds c)
-to-operands c = to-kinds (c .before .before .before) ∙ passed-on _ _ _ _ _ (c .before .before .unknown-kind .ensures) (c .if2 .left)
+to-operands c = to-kinds (c .before .before .before) ∙ passed-on _ _ _ (c .before .before .unknown-kind .ensures) (c .if2 .left)
 
 to-roots : (c : tie.Else3) → judged ours (past-operands c) ≡ fromRoots ours (past-operands c)
-to-roots c = to-operands (c .before .before .before) ∙ passed-on _ _ _ _ _ (c .before .before .wrong-operand .ensures) (c .if3 .left)
+to-roots c = to-operands (c .before .before .before) ∙ passed-on _ _ _ (c .before .before .wrong-operand .ensures) (c .if3 .left)
 
 to-used-again : (c : tie.Else4) → judged ours (past-roots c) ≡ fromUsedAgain ours (past-roots c)
-to-used-again c = to-roots (c .before .before .before) ∙ passed-on _ _ _ _ _ (c .before .before .missing-row .ensures) (c .if4 .left)
+to-used-again c = to-roots (c .before .before .before) ∙ passed-on _ _ _ (c .before .before .missing-row .ensures) (c .if4 .left)
 
 -- The counters hold the uses, so the two searches of them find the rows that the rules ask for.
 counted : (c : tie.After-count-roots) → Counts (c .count-roots .last .0) (uses (past-roots (before-counting c)))
@@ -97,7 +97,7 @@ unused-is c =
     c .first-with2 .ensures ∙ lowest-at-zero (d .count-roots .last .0) _ _ (sizes-still (before-counting d) .few-rows) (counted d)
 
 to-unused : (c : tie.Else5) → let t = past-roots (before-searches (c .before .before)) in judged ours t ≡ fromUnused ours t
-to-unused c = to-used-again (before-searches (c .before .before)) ∙ passed-on _ _ _ _ _ (again-is (c .before .before)) (c .if5 .left)
+to-unused c = to-used-again (before-searches (c .before .before)) ∙ passed-on _ _ _ (again-is (c .before .before)) (c .if5 .left)
 
 sizes-right-requires : tie.Need-sizes-right-requires
 sizes-right-requires c κs = tt
@@ -112,7 +112,7 @@ cast-if2 : tie.Need-cast-if2
 cast-if2 c = omega arith
 
 returns-2 : tie.Need-returns-2
-returns-2 c = sym (to-kinds (c .before .before .before) ∙ refused-at _ _ _ _ _ (c .before .before .unknown-kind .ensures) (c .if2 .taken))
+returns-2 c = sym (to-kinds (c .before .before .before) ∙ refused-at _ _ _ (c .before .before .unknown-kind .ensures) (c .if2 .taken))
 
 wrong-operand-requires : tie.Need-wrong-operand-requires
 wrong-operand-requires c κs = let s = sizes (c .before .before .before) in (s .few-rows, (s .xs-match, s .ys-match))
@@ -121,7 +121,7 @@ cast-if3 : tie.Need-cast-if3
 cast-if3 c = omega arith
 
 returns-3 : tie.Need-returns-3
-returns-3 c = sym (to-operands (c .before .before .before) ∙ refused-at _ _ _ _ _ (c .before .before .wrong-operand .ensures) (c .if3 .taken))
+returns-3 c = sym (to-operands (c .before .before .before) ∙ refused-at _ _ _ (c .before .before .wrong-operand .ensures) (c .if3 .taken))
 
 missing-row-requires : tie.Need-missing-row-requires
 missing-row-requires c κs = sizes-of-roots c .few-procs
@@ -130,7 +130,7 @@ cast-if4 : tie.Need-cast-if4
 cast-if4 c = omega arith
 
 returns-4 : tie.Need-returns-4
-returns-4 c = sym (to-roots (c .before .before .before) ∙ refused-at _ _ _ _ _ (c .before .before .missing-row .ensures) (c .if4 .taken))
+returns-4 c = sym (to-roots (c .before .before .before) ∙ refused-at _ _ _ (c .before .before .missing-row .ensures) (c .if4 .taken))
 
 count-children-requires : tie.Need-count-children-requires
 count-children-requires c κs =
@@ -157,7 +157,7 @@ cast-if5 : tie.Need-cast-if5
 cast-if5 c = omega arith
 
 returns-5 : tie.Need-returns-5
-returns-5 c = sym (to-used-again (before-searches (c .before .before)) ∙ refused-at _ _ _ _ _ (again-is (c .before .before)) (c .if5 .taken))
+returns-5 c = sym (to-used-again (before-searches (c .before .before)) ∙ refused-at _ _ _ (again-is (c .before .before)) (c .if5 .taken))
 
 first-with-requires-2 : tie.Need-first-with-requires-2
 first-with-requires-2 c κs = sizes-still (before-searches (c .before .before .before)) .few-rows
@@ -166,10 +166,10 @@ cast-if6 : tie.Need-cast-if6
 cast-if6 c = omega arith
 
 returns-6 : tie.Need-returns-6
-returns-6 c = sym (to-unused (c .before .before .before .before) ∙ refused-at _ _ _ _ _ (unused-is (c .before .before)) (c .if6 .taken))
+returns-6 c = sym (to-unused (c .before .before .before .before) ∙ refused-at _ _ _ (unused-is (c .before .before)) (c .if6 .taken))
 
 returns-7 : tie.Need-returns-7
-returns-7 c = sym (to-unused (c .before .before .before .before) ∙ passed-on _ _ _ _ _ (unused-is (c .before .before)) (c .if6 .left))
+returns-7 c = sym (to-unused (c .before .before .before .before) ∙ passed-on _ _ _ (unused-is (c .before .before)) (c .if6 .left) ∙ all-passed)
 
 pub judge-spec : {M : Type 1} → statement M
 judge-spec =
