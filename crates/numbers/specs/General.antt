@@ -1,7 +1,8 @@
 -- Definitions of general use: tests, sums and lists over the numbers below a bound, and what is laid at the front of a list.
-use mathlib.Core.Bool.{Bool, true, cond, _&&_}
+use mathlib.Core.Bool.{Bool, true, false, cond, _&&_}
 use mathlib.Core.List.{List, [], _++_}
-use Prim.Native.Nat.{ℕ, zero, suc, _+_}
+use mathlib.Core.Path.{_≡_}
+use Prim.Native.Nat.{ℕ, zero, suc, _+_, _<_}
 use lib.ListN.{length, drop}
 
 -- A test as a number: 1 if it passes, else 0.
@@ -22,6 +23,16 @@ every (suc n) test = every n test && test n
 unfoldable pub lowest : ℕ → (ℕ → Bool) → ℕ
 lowest zero test = zero
 lowest (suc n) test = cond (test zero) zero (suc (lowest n (λ k. test (suc k))))
+
+-- Of the places below n, i is the lowest at which the test passes.
+pub record First (n : ℕ) (test : ℕ → Bool) (i : ℕ) : Type 0 where
+  pub there : i < n
+  pub passes : test i ≡ true
+  pub before : (k : ℕ) → k < i → test k ≡ false
+
+-- The test passes at no place below n.
+abbrev pub Nowhere : ℕ → (ℕ → Bool) → Type 0
+Nowhere n test = (k : ℕ) → k < n → test k ≡ false
 
 -- The lists f 0, f 1, .. up to and without f n, one behind the other.
 unfoldable pub inTurn : {A : Type 0} → ℕ → (ℕ → List A) → List A

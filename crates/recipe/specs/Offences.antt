@@ -1,9 +1,10 @@
 -- When a table is admitted, and when each refusal is given, and for which place: the list of refusals as a relation.
-use mathlib.Core.Bool.{Bool, true, false}
+use mathlib.Core.Bool.{true}
 use mathlib.Core.List.{List, _∷_}
 use mathlib.Core.Path.{_≡_}
 use Prim.Native.Nat.{ℕ, _≤_, _<_}
 use lib.ListN.{length}
+use Rattle.numbers.specs.General.{First, Nowhere}
 use Rattle.numbers.specs.Sizes.{Size, rowCeiling}
 use Rattle.numbers.specs.declared.Refusal.{Refusal}
 use Rattle.recipe.specs.Rules.{Rule, operandsRight, uses}
@@ -25,16 +26,6 @@ pub record KeepsRules (z : Size) (t : Table) : Type 0 where
   pub operands : (i : ℕ) → i < rows t → operandsRight z (kindOf (kindAt t i)) (xAt t i) (yAt t i) i (procs t) ≡ true
   pub roots : (f : ℕ) → f < procs t → rootAt t f < rows t
   pub once : (i : ℕ) → i < rows t → uses t i ≡ 1
-
--- Of the places below n, i is the lowest at which the test passes.
-pub record First (n : ℕ) (test : ℕ → Bool) (i : ℕ) : Type 0 where
-  pub there : i < n
-  pub passes : test i ≡ true
-  pub before : (k : ℕ) → k < i → test k ≡ false
-
--- The test passes at no place below n.
-abbrev pub Nowhere : ℕ → (ℕ → Bool) → Type 0
-Nowhere n test = (k : ℕ) → k < n → test k ≡ false
 
 -- What rules that are tried one after the other refuse: the lowest place that breaks one, where no place breaks any before it.
 pub data Refuses : List Rule → Refusal → Type 0 where
