@@ -1,17 +1,19 @@
 -- The computed closure is the relation: with every procedure of the program allowed between, what is closed through each of them follows any path of calls,
 -- since a procedure on the way has a call in its body and so is one of the program. Assumes nothing.
 use mathlib.Core.Path.{_≡_, refl, sym, _∙_, subst}
-use mathlib.Core.Bool.{Bool, true, false, _&&_, _||_, true≢false, false≢true, or-true, and-eq-true-iff}
+use mathlib.Core.Bool.{Bool, true, false, not, _&&_, _||_, true≢false, false≢true, or-true, and-eq-true-iff}
 use mathlib.Core.Logic.{_⊎_, inl, inr, ⊎-elim}
 use Prim.Native.Nat.{ℕ, zero, suc, _<_}
 use native.Mathlib.Nat.{eq-or-lt-of-le, le-of-suc-le-suc, not-suc-le-zero}
 use native.Mathlib.Decide.{decLt}
 use native.Mathlib.Omega.{arith}
 use lib.ListN.{length, List·getD-eq-default}
-use borrow.Author.Tests.{eqb-true, eq-eqb}
+use borrow.Author.Tests.{eqb-true, eq-eqb, not-true, not-false}
 use Rattle.calculus.specs.Syntax.{Stmt, skip, step, seq, loop, async, finish, call, Program, body}
 use Rattle.calculus.specs.Calls.{CallsIn, Calls, Reaches, one, more, NoSelfCall}
-use Rattle.calls.specs.Reached.{calling, reached, someReaches, wide}
+use Rattle.numbers.specs.General.{every}
+use Rattle.numbers.proofs.EveryLaws.{every-passes}
+use Rattle.calls.specs.Reached.{calling, reached, reachesItself, wide}
 
 either-true : (a b : Bool) → (a || b) ≡ true → (a ≡ true) ⊎ (b ≡ true)
 either-true true b e = inl refl
@@ -22,6 +24,16 @@ first-true a b e = rw e
 
 second-true : (a b : Bool) → b ≡ true → (a || b) ≡ true
 second-true a b e = rw e (or-true a)
+
+-- a test that does not pass everywhere fails somewhere
+some-fails : (test : ℕ → Bool) (n : ℕ) → every n test ≡ false → (f : ℕ) × (test f ≡ false)
+unfolding every
+some-fails test zero e = absurd (true≢false e)
+some-fails test (suc n) e = go (every n test) (some-fails test n) e
+  where
+    go : (a : Bool) → (a ≡ false → (f : ℕ) × (test f ≡ false)) → (a && test n) ≡ false → (f : ℕ) × (test f ≡ false)
+    go true before e = (n, e)
+    go false before e = before refl
 
 pub calling-calls : (s : Stmt) (g : ℕ) → calling s g ≡ true → CallsIn s g
 unfolding calling
@@ -125,27 +137,21 @@ module _ (p : Program) where
       follow (more {f = f} {g = g} {h = h} c r) =
           through-closed (length p) g f h (start-below r) (through-call (length p) f g c) (follow r)
 
-  some-reaches : (n : ℕ) → someReaches p n ≡ true → (f : ℕ) × Reaches p f f
-  unfolding someReaches
-  some-reaches zero e = absurd (false≢true e)
-  some-reaches (suc n) e =
-      ⊎-elim (some-reaches n) (λ t. (n, reached-reaches (length p) n n t))
-      (either-true (someReaches p n) (reached p (length p) n n) e)
-
-  reaches-some : (n f : ℕ) → f < n → reached p (length p) f f ≡ true → someReaches p n ≡ true
-  unfolding someReaches
-  reaches-some zero f h e = absurd (not-suc-le-zero h)
-  reaches-some (suc n) f h e =
-      ⊎-elim
-      (λ i. second-true (someReaches p n) (reached p (length p) n n) (subst (λ (m : ℕ). Through (length p) m m) i e))
-      (λ l. first-true (someReaches p n) (reached p (length p) n n) (reaches-some n f l e))
-      (eq-or-lt-of-le (le-of-suc-le-suc h))
-
   pub wide-some : wide p ≡ true → (f : ℕ) × Reaches p f f
-  wide-some e = some-reaches (length p) e
+  wide-some e =
+      let found = some-fails (λ f. not (reachesItself p f)) (length p) (not-true _ e) in
+      (found .0, reached-reaches (length p) (found .0) (found .0) (not-false _ (found .1)))
+
+  exact-not-itself : wide p ≡ false → (f : ℕ) → Reaches p f f → ⊥
+  exact-not-itself e f r =
+      true≢false (sym (reaches-reached f f r) ∙ not-true _ (every-passes (λ f. not (reachesItself p f)) (length p) (not-false _ e) f (start-below r)))
 
   pub some-wide : (f : ℕ) → Reaches p f f → wide p ≡ true
-  some-wide f r = reaches-some (length p) f (start-below r) (reaches-reached f f r)
+  some-wide f r = go (wide p) refl
+    where
+      go : (b : Bool) → wide p ≡ b → b ≡ true
+      go true e = refl
+      go false e = absurd (exact-not-itself e f r)
 
   pub exact-no-self-call : wide p ≡ false → NoSelfCall p
-  exact-no-self-call e f main r = true≢false (sym (some-wide f r) ∙ e)
+  exact-no-self-call e f main = exact-not-itself e f

@@ -1,19 +1,37 @@
--- What the words of reached procedures hold. Only the contracts of inner functions speak of these.
+-- Sets of procedures as the code keeps them, one word each, procedure f at bit f. Only the contracts of inner functions speak of these.
 use mathlib.Core.Bool.{Bool}
-use mathlib.Core.Path.{_≡_}
 use mathlib.Core.List.{List}
-use Prim.Native.Nat.{ℕ, _<_}
+use Prim.Native.Nat.{ℕ, zero, suc, _*_, _^_}
+use lib.Bits.{bitOr}
+use lib.Dec.{eqb}
 use lib.ListN.{getD}
-use Rattle.labels.specs.Words.{bit}
-use Rattle.numbers.specs.General.{oneIf}
-use Rattle.calculus.specs.Syntax.{Program}
-use Rattle.numbers.specs.Sizes.{ours}
-use Rattle.calls.specs.Reached.{reached}
+use Rattle.calculus.specs.Syntax.{Stmt, skip, step, seq, loop, async, finish, call, Program, body}
+use Rattle.labels.specs.Words.{bit, changed}
+use Rattle.numbers.specs.General.{every}
 
--- Bit g of the word, for each procedure that may be there, says whether the test passes.
-pub record BitsAre (x : ℕ) (test : ℕ → Bool) : Type 0 where
-  pub bits : (g : ℕ) → g < ours .procs → bit x g ≡ oneIf (test g)
+-- The procedures that a statement calls.
+unfoldable pub callsOf : Stmt → ℕ
+callsOf skip = 0
+callsOf (step l) = 0
+callsOf (seq s t) = bitOr (callsOf s) (callsOf t)
+callsOf (loop s) = callsOf s
+callsOf (async s) = callsOf s
+callsOf (finish s) = callsOf s
+callsOf (call f) = 2 ^ f
 
--- The words say of the first n procedures which they reach with only procedures below k between.
-pub record Reaching (reach : List ℕ) (p : Program) (n k : ℕ) : Type 0 where
-  pub word : (f : ℕ) → f < n → BitsAre (getD reach f 0) (reached p k f)
+-- Sets of which the first n, for each procedure f, become the procedures that the body of f calls.
+abbrev pub directCalls : ℕ → Program → List ℕ → List ℕ
+directCalls n p sets = changed n (λ f set. callsOf (body p f)) sets
+
+-- The first n sets, reaching through k besides: who reaches k reaches all that k reaches.
+abbrev pub throughAlso : ℕ → ℕ → List ℕ → List ℕ
+throughAlso n k sets = changed n (λ f set. bitOr set (bit set k * getD sets k 0)) sets
+
+-- The first n sets, reaching through each procedure below k, one after the other.
+unfoldable pub closedBelow : ℕ → ℕ → List ℕ → List ℕ
+closedBelow n zero sets = sets
+closedBelow n (suc k) sets = throughAlso n k (closedBelow n k sets)
+
+-- Whether none of the first n procedures is in its own set.
+abbrev pub noneInOwn : ℕ → List ℕ → Bool
+noneInOwn n sets = every n (λ f. eqb (bit (getD sets f 0) f) 0)

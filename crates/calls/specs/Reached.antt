@@ -1,9 +1,10 @@
--- Which procedures reach which by calls, as a computation, and the verdict that follows from it.
-use mathlib.Core.Bool.{Bool, false, _&&_, _||_}
+-- Which procedures reach which by calls, as a computation.
+use mathlib.Core.Bool.{Bool, false, not, _&&_, _||_}
 use Prim.Native.Nat.{ℕ, zero, suc}
 use lib.Dec.{eqb}
 use lib.ListN.{length}
 use Rattle.calculus.specs.Syntax.{Stmt, skip, step, seq, loop, async, finish, call, Program, body}
+use Rattle.numbers.specs.General.{every}
 
 -- Whether a call of g stands in the statement.
 unfoldable pub calling : Stmt → ℕ → Bool
@@ -20,11 +21,10 @@ unfoldable pub reached : Program → ℕ → ℕ → ℕ → Bool
 reached p zero f g = calling (body p f) g
 reached p (suc k) f g = reached p k f g || (reached p k f k && reached p k k g)
 
--- Whether some procedure below n reaches itself.
-unfoldable pub someReaches : Program → ℕ → Bool
-someReaches p zero = false
-someReaches p (suc n) = someReaches p n || reached p (length p) n n
+-- Whether f can reach itself by calls.
+abbrev pub reachesItself : Program → ℕ → Bool
+reachesItself p f = reached p (length p) f f
 
--- Whether any procedure of the program, called or not, reaches itself by calls.
+-- Whether some procedure of the program, called or not, can reach itself by calls.
 abbrev pub wide : Program → Bool
-wide p = someReaches p (length p)
+wide p = not (every (length p) (λ f. not (reachesItself p f)))

@@ -1,95 +1,117 @@
 // Which procedures reach which by calls: a set of procedures is one word, procedure f at bit f.
 ghost use mathlib.Core.Path.{_≡_};
-ghost use Prim.Native.Nat.{_<_, _≤_, _*_};
-ghost use lib.Bits.{bitOr};
-ghost use lib.ListN.{length, getD};
-ghost use Rattle.labels.specs.Words.{bit, changed};
+ghost use Prim.Native.Nat.{_<_, _≤_, _^_};
+ghost use lib.ListN.{length};
+ghost use Rattle.labels.specs.Words.{bit};
 ghost use Rattle.numbers.specs.Sizes.{ours};
+ghost use Rattle.recipe.specs.Inner.{rowsAlone, OfAdmitted};
 ghost use Rattle.recipe.specs.Rules.{admitted};
 ghost use Rattle.recipe.specs.Statements.{statementAt, programOf};
-ghost use Rattle.recipe.specs.Tables.{tableOf};
-ghost use Rattle.calls.specs.Reached.{calling, wide};
-ghost use Rattle.recipe.specs.Inner.{rowsAlone, OfAdmitted};
-ghost use Rattle.calls.specs.Inner.{BitsAre, Reaching};
+ghost use Rattle.recipe.specs.Tables.{tableOf, procs};
+ghost use Rattle.calls.specs.Inner.{callsOf, directCalls, throughAlso, closedBelow, noneInOwn};
+ghost use Rattle.calls.specs.Reached.{wide};
 use numbers::ProcNumber;
+use numbers::RowNumber;
+
+// The set of this procedure alone.
+fn alone(proc: ProcNumber) -> u64
+    requires { ⌜ proc .0 < ours .procs ⌝ }
+    ensures { λ r. ⌜ r ≡ 2 ^ proc .0 ⌝ }
+{
+    1u64 << proc.0
+}
+
+// Whether the procedure is in the set, as a number.
+fn bit_of(set: u64, proc: ProcNumber) -> u64
+    requires { ⌜ proc .0 < ours .procs ⌝ }
+    ensures { λ r. ⌜ r ≡ bit set (proc .0) ⌝ }
+{
+    (set >> proc.0) % 2
+}
 
 // The procedures that a row's statement calls.
-fn row_calls(kinds: &[u8], xs: &[u16], ys: &[u16], row: usize) -> u64
+fn row_calls(kinds: &[u8], xs: &[u16], ys: &[u16], row: RowNumber) -> u64
     requires { ⌜ OfAdmitted ours (now kinds) (now xs) (now ys) ⌝ }
-    requires { ⌜ row < length (now kinds) ⌝ }
-    ensures { λ r. ⌜ BitsAre r (calling (statementAt (rowsAlone (now (kinds .entry)) (now (xs .entry)) (now (ys .entry))) row)) ⌝ }
+    requires { ⌜ row .0 < length (now kinds) ⌝ }
+    ensures { λ r. let t = rowsAlone (now (kinds .entry)) (now (xs .entry)) (now (ys .entry)) in ⌜ r ≡ callsOf (statementAt t (row .0)) ⌝ }
 {
-    let kind = kinds[row];
-    let x = xs[row];
-    let y = ys[row];
+    let i = row.0 as usize;
+    let kind = kinds[i];
+    let x = xs[i];
+    let y = ys[i];
     match kind {
         0 => 0,
         1 => 0,
-        2 => row_calls(kinds, xs, ys, x as usize) | row_calls(kinds, xs, ys, y as usize),
-        3 => row_calls(kinds, xs, ys, x as usize),
-        4 => row_calls(kinds, xs, ys, x as usize),
-        5 => row_calls(kinds, xs, ys, x as usize),
-        6 => 1u64 << x,
+        2 => row_calls(kinds, xs, ys, RowNumber(x)) | row_calls(kinds, xs, ys, RowNumber(y)),
+        3 => row_calls(kinds, xs, ys, RowNumber(x)),
+        4 => row_calls(kinds, xs, ys, RowNumber(x)),
+        5 => row_calls(kinds, xs, ys, RowNumber(x)),
+        6 => alone(ProcNumber(x)),
         7..=255 => 0,
     }
 }
 
-// The procedures that each procedure calls.
+// The procedures that each procedure's body calls.
 fn direct_calls(reach: &mut [u64], kinds: &[u8], xs: &[u16], ys: &[u16], roots: &[u16])
-    requires { ⌜ admitted ours (tableOf (now kinds) (now xs) (now ys) (now roots)) ⌝ }
-    requires { ⌜ length (now reach) ≡ ours .procs ⌝ }
-    ensures { λ _. ⌜ Reaching (now (reach .exit)) (programOf (tableOf (now (kinds .entry)) (now (xs .entry)) (now (ys .entry)) (now (roots .entry)))) (length (now (roots .entry))) 0 ⌝ }
+    requires { let t = tableOf (now kinds) (now xs) (now ys) (now roots) in ⌜ (admitted ours t) × (procs t ≤ length (now reach)) ⌝ }
+    ensures { λ _. let t = tableOf (now (kinds .entry)) (now (xs .entry)) (now (ys .entry)) (now (roots .entry)) in
+        ⌜ now (reach .exit) ≡ directCalls (procs t) (programOf t) (now (reach .entry)) ⌝ }
 {
     let mut f = 0;
     while f < roots.len() {
-        reach[f] = row_calls(kinds, xs, ys, roots[f] as usize);
+        reach[f] = row_calls(kinds, xs, ys, RowNumber(roots[f]));
         f += 1;
     }
 }
 
 // What is reached through procedure k besides: whoever reaches k reaches all that k reaches.
-fn through(reach: &mut [u64], n: usize, k: usize)
-    requires { ⌜ n ≤ length (now reach) ⌝ }
-    requires { ⌜ k < n ⌝ }
-    requires { ⌜ n ≤ ours .procs ⌝ }
-    ensures { λ _. ⌜ now (reach .exit) ≡ changed n (λ f x. bitOr x (bit x k * getD (now (reach .entry)) k 0)) (now (reach .entry)) ⌝ }
+fn through(reach: &mut [u64], n: usize, k: ProcNumber)
+    requires { ⌜ (n ≤ length (now reach)) × ((k .0 < n) × (n ≤ ours .procs)) ⌝ }
+    ensures { λ _. ⌜ now (reach .exit) ≡ throughAlso n (k .0) (now (reach .entry)) ⌝ }
 {
-    let via = reach[k];
+    let at = k.0 as usize;
+    let via = reach[at];
     let mut f = 0;
     while f < n {
-        reach[f] = reach[f] | ((reach[f] >> k) % 2) * via;
+        reach[f] = reach[f] | bit_of(reach[f], k) * via;
         f += 1;
     }
 }
 
-// Closes the calls: through every procedure, one after the other.
-fn close(reach: &mut [u64], kinds: &[u8], xs: &[u16], ys: &[u16], roots: &[u16])
-    requires { ⌜ admitted ours (tableOf (now kinds) (now xs) (now ys) (now roots)) ⌝ }
-    requires { ⌜ length (now reach) ≡ ours .procs ⌝ }
-    ensures { λ _. ⌜ Reaching (now (reach .exit)) (programOf (tableOf (now (kinds .entry)) (now (xs .entry)) (now (ys .entry)) (now (roots .entry)))) (length (now (roots .entry))) (length (now (roots .entry))) ⌝ }
+// Closes the calls of n procedures: through every procedure, one after the other.
+fn close(reach: &mut [u64], n: usize)
+    requires { ⌜ (n ≤ length (now reach)) × (n ≤ ours .procs) ⌝ }
+    ensures { λ _. ⌜ now (reach .exit) ≡ closedBelow n n (now (reach .entry)) ⌝ }
 {
-    direct_calls(reach, kinds, xs, ys, roots);
-    let n = roots.len();
     let mut k = 0;
     while k < n {
-        through(reach, n, k);
+        through(reach, n, ProcNumber(k as u16));
         k += 1;
     }
+}
+
+// Whether none of n procedures is in its own set.
+fn none_in_own(reach: &[u64], n: usize) -> bool
+    requires { ⌜ (n ≤ length (now reach)) × (n ≤ ours .procs) ⌝ }
+    ensures { λ r. ⌜ r ≡ noneInOwn n (now (reach .entry)) ⌝ }
+{
+    let mut f = n;
+    while 0 < f {
+        f -= 1;
+        if bit_of(reach[f], ProcNumber(f as u16)) != 0 {
+            return false;
+        }
+    }
+    true
 }
 
 // Whether any procedure of an admitted table, called or not, reaches itself.
 pub(crate) fn reaches_itself(kinds: &[u8], xs: &[u16], ys: &[u16], roots: &[u16]) -> bool
     requires { ⌜ admitted ours (tableOf (now kinds) (now xs) (now ys) (now roots)) ⌝ }
-    ensures { λ r. ⌜ r ≡ wide (programOf (tableOf (now (kinds .entry)) (now (xs .entry)) (now (ys .entry)) (now (roots .entry)))) ⌝ }
+    ensures { λ r. let t = tableOf (now (kinds .entry)) (now (xs .entry)) (now (ys .entry)) (now (roots .entry)) in ⌜ r ≡ wide (programOf t) ⌝ }
 {
     let mut reach = [0u64; ProcNumber::CEILING];
-    close(&mut reach, kinds, xs, ys, roots);
-    let mut f = roots.len();
-    while 0 < f {
-        f -= 1;
-        if (reach[f] >> f) % 2 == 1 {
-            return true;
-        }
-    }
-    false
+    direct_calls(&mut reach, kinds, xs, ys, roots);
+    close(&mut reach, roots.len());
+    !none_in_own(&reach, roots.len())
 }

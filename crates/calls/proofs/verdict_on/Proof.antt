@@ -1,13 +1,31 @@
 -- `verdict_on` meets its contract: a refusal is handed on, and an admitted table's verdict is whether a procedure reaches itself.
 -- Assumes nothing.
-use mathlib.Core.Path.{refl, sym, _∙_}
+use mathlib.Core.Path.{_≡_, refl, sym, _∙_}
+use mathlib.Core.Bool.{Bool, cond}
 use denote.Ref.{now}
-use Rattle.numbers.specs.Sizes.{ours}
-use Rattle.recipe.specs.Tables.{tableOf}
-use Rattle.calls.proofs.VerdictLaws.{refused-verdict, admitted-verdict}
 use borrow.Author.Needs.{needs}
+use Rattle.numbers.specs.Sizes.{ours}
+use Rattle.recipe.specs.Tables.{Table, tableOf}
+use Rattle.calls.specs.Verdicts.{verdictOn}
+use Rattle.calls.specs.declared.Verdict.{Verdict}
+use Rattle.calls.specs.declared.Verdict.the-variants as verdict
+use Rattle.calls.proofs.VerdictLaws.{refused-verdict, admitted-verdict}
 use Rattle.calls.proofs.verdict_on.Statement.{statement}
 use Rattle.calls.proofs.verdict_on.Tie as tie
+
+-- The places: the entry, from where the judge has replied, and the table.
+abbrev start : tie.After-judge → tie.Start
+start c = c .before .before .before .before .before
+
+abbrev table : tie.After-judge → Table
+table c = let a = start c .args in tableOf (now (a .kinds)) (now (a .xs)) (now (a .ys)) (now (a .roots))
+
+-- The verdict on a table that the judge admitted is by what the calls say.
+admitted-returns : (c : tie.After-reaches-itself) {b : Bool} {v : Verdict} → c .reaches-itself .result ≡ b → v ≡ cond b verdict.Wide verdict.Exact
+    → v ≡ verdictOn ours (table (c .before .before .before))
+admitted-returns c r e =
+    admitted-verdict ours (table (c .before .before .before)) (sym (c .before .before .before .judge .ensures) ∙ c .before .enum-told .given .1)
+    (sym r ∙ c .reaches-itself .ensures) e
 
 judge-requires : tie.Need-judge-requires
 judge-requires c κs = search needs
@@ -23,18 +41,13 @@ reaches-itself-requires c κs = sym (c .before .before .judge .ensures) ∙ c .e
 
 returns : tie.Need-returns
 returns c =
-    let a = c .before .before .before .before .before .before .before .before .args in
-    refused-verdict ours (tableOf (now (a .kinds)) (now (a .xs)) (now (a .ys)) (now (a .roots))) (sym (c .before .before .before .judge .ensures) ∙ c .before .r .given .1)
+    let d = c .before .before .before in refused-verdict ours (table d) (sym (d .judge .ensures) ∙ c .before .r .given .1)
 
 returns-2 : tie.Need-returns-2
-returns-2 c =
-    let a = c .before .before .before .before .before .before .before .before .before .args in
-    admitted-verdict ours (tableOf (now (a .kinds)) (now (a .xs)) (now (a .ys)) (now (a .roots))) (sym (c .before .before .before .before .judge .ensures) ∙ c .before .before .enum-told .given .1) (sym (c .if1 .taken) ∙ c .before .reaches-itself .ensures) refl
+returns-2 c = admitted-returns (c .before) (c .if1 .taken) refl
 
 returns-3 : tie.Need-returns-3
-returns-3 c =
-    let a = c .before .before .before .before .before .before .before .before .before .args in
-    admitted-verdict ours (tableOf (now (a .kinds)) (now (a .xs)) (now (a .ys)) (now (a .roots))) (sym (c .before .before .before .before .judge .ensures) ∙ c .before .before .enum-told .given .1) (sym (c .if1 .left) ∙ c .before .reaches-itself .ensures) refl
+returns-3 c = admitted-returns (c .before) (c .if1 .left) refl
 
 pub verdict-on-spec : {M : Type 1} → statement M
 verdict-on-spec =

@@ -1,62 +1,58 @@
--- `close` meets its contract: after k turns the words hold what is reached with only procedures below k between.
+-- `close` meets its contract: after k turns the sets reach through each procedure below k.
 -- Assumes nothing.
-use mathlib.Core.Path.{_≡_, refl, sym, _∙_}
-use Prim.Native.Nat.{_-_, _≤_}
+use mathlib.Core.Path.{_≡_, refl, ap, _∙_}
+use Prim.Native.Nat.{ℕ, _-_, _≤_}
 use native.Mathlib.Omega.{arith}
+use denote.Ref.{now}
 use lib.ListN.{length}
-use Rattle.numbers.specs.Sizes.{ours}
-use Rattle.recipe.specs.Statements.{programOf}
-use Rattle.recipe.specs.Tables.{tableOf}
-use Rattle.recipe.proofs.Admitted.{sizes-right}
-use Rattle.calls.specs.Inner.{Reaching}
-use Rattle.calls.proofs.SetLaws.{through-more, reaching-as}
+use Rattle.calls.specs.Inner.{throughAlso, closedBelow}
+use Rattle.calls.proofs.SetLaws.{closed-none, closed-more}
 use Rattle.calls.proofs.reach.close.Statement.{statement}
 use Rattle.calls.proofs.reach.close.Tie as tie
 
 abbrev Inv-loop : tie.InvT-loop
-Inv-loop reach₀ kinds xs ys roots n k₀ reach k = (k ≤ n) × (n ≡ length roots) × (length reach ≡ ours .procs) × Reaching reach (programOf (tableOf kinds xs ys roots)) n k
+Inv-loop reach₀ n k₀ reach k = (k ≤ n) × (length reach ≡ length reach₀) × (reach ≡ closedBelow n k reach₀)
 
 abbrev μ-loop : tie.MeasureT-loop
-μ-loop reach₀ kinds xs ys roots n k₀ reach k = n - k
+μ-loop reach₀ n k₀ reach k = n - k
 
-direct-calls-requires : tie.Need-direct-calls-requires Inv-loop μ-loop
-direct-calls-requires c κs =
-    c .before .before .before .before .before .before .pre
+-- The loop's head, from the end of a turn, and the entry.
+abbrev head : tie.After-slice-known2 Inv-loop μ-loop → tie.At-loop Inv-loop μ-loop
+head c = c .before .before .before .before .before
 
 loop-holds : tie.Need-loop-holds Inv-loop μ-loop
-loop-holds c =
-    (omega arith, refl, c .before .before .direct-calls .kept .0 ∙ c .before .before .before .before .before .before .before .before .before .pre .1, c .before .before .direct-calls .ensures)
+loop-holds c = (omega arith, refl, closed-none _ _)
+
+cast-t8 : tie.Need-cast-t8 Inv-loop μ-loop
+cast-t8 c = omega arith
 
 through-requires : tie.Need-through-requires Inv-loop μ-loop
-through-requires c κs =
-    let few = sizes-right ours (tableOf _ _ _ _) (c .before .before .before .before .before .before .before .before .before .before .before .before .pre .0) .few-procs in
-    let i = c .before .before .loop .inv in
-    (omega (arith, i .2), (c .before .loop-test .taken, few))
+through-requires c κs = omega (arith, c .before .before)
 
 add-k : tie.Need-add-k Inv-loop μ-loop
-add-k c =
-    omega (arith, sizes-right ours (tableOf _ _ _ _) (c .before .before .before .before .before .before .before .before .before .before .before .before .before .before .before .pre .0) .few-procs, c .before .before .before .before .loop-test .taken)
+add-k c = omega (arith, head c .before .before .pre, c .before .before .before .before .loop-test .taken)
 
 loop-less : tie.Need-loop-less Inv-loop μ-loop
-loop-less c =
-    let h = c .before .before .before .before .loop-test .taken in
-    omega arith
+loop-less c = let h = c .before .before .before .before .loop-test .taken in omega arith
 
 loop-again : tie.Need-loop-again Inv-loop μ-loop
 loop-again c =
-    let few = sizes-right ours (tableOf _ _ _ _) (c .before .before .before .before .before .before .before .before .before .before .before .before .before .before .before .pre .0) .few-procs in
-    let l = c .before .before .before .before .before .loop in
-    let h = c .before .before .before .before .loop-test .taken in
-    let t = c .before .before .through in
-    (omega arith, l .inv .1, t .kept .0 ∙ l .inv .2, through-more _ (l .k) h few (omega (arith, l .inv .2)) (t .ensures) (l .inv .3))
+    let l = head c .loop in
+    let n = head c .before .before .args .n in
+    let t = c .before .before .through in (
+      omega (arith, c .before .before .before .before .loop-test .taken),
+      t .kept .0 ∙ l .inv .1,
+      t .ensures ∙ ap (throughAlso n (l .k)) (l .inv .2) ∙ closed-more n (l .k) _,
+    )
 
 same-length : tie.Need-same-length Inv-loop μ-loop
-same-length c =
-    c .before .loop .inv .2 ∙ sym (c .before .before .before .before .before .before .before .before .before .before .before .pre .1)
+same-length c = c .before .loop .inv .1
 
 returns : tie.Need-returns Inv-loop μ-loop
 returns c =
-    reaching-as refl (omega arith) (c .before .loop .inv .3)
+    let n = c .before .before .before .args .n in
+    let done : c .before .loop .k ≡ n = omega arith in
+    c .before .loop .inv .2 ∙ ap (λ (k : ℕ). closedBelow n k (now (c .before .before .before .args .reach))) done
 
 pub close-spec : {M : Type 1} → statement M
 close-spec =
@@ -64,8 +60,8 @@ close-spec =
     (tie.spec
     Inv-loop
     μ-loop
-    direct-calls-requires
     loop-holds
+    cast-t8
     through-requires
     add-k
     loop-less

@@ -1,97 +1,75 @@
--- `reaches_itself` meets its contract: from the last procedure down, the answer is that of the procedures that are left.
+-- `reaches_itself` meets its contract: the sets of direct calls, closed, are those of the procedures reached, so their own bits tell.
 -- Assumes nothing.
-use mathlib.Core.Path.{_≡_, refl, sym, ap, _∙_}
+use mathlib.Core.Path.{sym, ap, _∙_}
+use mathlib.Core.Bool.{not}
 use Prim.Native.Nat.{_≤_}
 use native.Mathlib.Omega.{arith}
 use denote.Ref.{now}
-use lib.ListN.{length}
+use borrow.Author.Needs.{needs}
 use Rattle.numbers.specs.Sizes.{ours}
 use Rattle.recipe.specs.Statements.{programOf}
-use Rattle.recipe.specs.Tables.{tableOf}
+use Rattle.recipe.specs.Tables.{Table, tableOf, procs}
 use Rattle.recipe.proofs.Admitted.{sizes-right}
 use Rattle.recipe.proofs.Readings.{program-length}
-use Rattle.labels.specs.Words.{bit}
-use Rattle.calls.specs.Reached.{wide, someReaches}
-use Rattle.calls.specs.Inner.{Reaching}
-use Rattle.calls.proofs.SetLaws.{one-found, none-found, some-none}
+use Rattle.calls.specs.Inner.{closedBelow, noneInOwn}
+use Rattle.calls.proofs.SetLaws.{own-sets}
 use Rattle.calls.proofs.reach.reaches_itself.Statement.{statement}
 use Rattle.calls.proofs.reach.reaches_itself.Tie as tie
 
-abbrev Inv-loop : tie.InvT-loop
-Inv-loop kinds xs ys roots reach f₀ f = (f ≤ length roots) × (wide (programOf (tableOf kinds xs ys roots)) ≡ someReaches (programOf (tableOf kinds xs ys roots)) f) × Reaching reach (programOf (tableOf kinds xs ys roots)) (length roots) (length roots)
+-- The places: the entry, from before the first call, and from each later call the place before the one that precedes it.
+abbrev start : tie.After-reach → tie.Start
+start c = c .before .before .before .before .before
 
-abbrev μ-loop : tie.MeasureT-loop
-μ-loop kinds xs ys roots reach f₀ f = f
+abbrev before-direct : tie.After-reach3 → tie.After-reach
+before-direct c = c .before .before .before
 
-slice-aggregate-close : tie.Need-slice-aggregate-close Inv-loop μ-loop
-slice-aggregate-close c =
-    refl
+abbrev before-close : tie.After-reach5 → tie.After-reach3
+before-close c = c .before .before .before
 
-close-requires : tie.Need-close-requires Inv-loop μ-loop
-close-requires c κs =
-    (c .before .before .before .before .before .pre, refl)
+-- The table, and that its procedures are few.
+abbrev table : tie.After-reach → Table
+table c = let a = start c .args in tableOf (now (a .kinds)) (now (a .xs)) (now (a .ys)) (now (a .roots))
 
-loop-holds : tie.Need-loop-holds Inv-loop μ-loop
-loop-holds c =
-    let a = c .before .before .before .before .before .before .before .args in
-    (omega arith, ap (someReaches (programOf (tableOf (now (a .kinds)) (now (a .xs)) (now (a .ys)) (now (a .roots))))) (program-length (tableOf (now (a .kinds)) (now (a .xs)) (now (a .ys)) (now (a .roots)))), c .before .close .ensures)
+few : (c : tie.After-reach) → procs (table c) ≤ ours .procs
+few c = sizes-right ours (table c) (start c .pre) .few-procs
 
-sub-f : tie.Need-sub-f Inv-loop μ-loop
-sub-f c =
-    c .loop-test .taken
+slice-aggregate-direct-calls : tie.Need-slice-aggregate-direct-calls
+slice-aggregate-direct-calls c = search needs
 
-mul-if1 : tie.Need-mul-if1 Inv-loop μ-loop
-mul-if1 c =
-    omega (arith, sizes-right ours (tableOf _ _ _ _) (c .before .before .before .before .before .before .before .before .before .pre) .few-procs, c .before .loop .inv .0, c .loop-test .taken)
+direct-calls-requires : tie.Need-direct-calls-requires
+direct-calls-requires c κs = (start c .pre, few c)
 
-array-read-if1 : tie.Need-array-read-if1 Inv-loop μ-loop
-array-read-if1 c =
-    omega (arith, sizes-right ours (tableOf _ _ _ _) (c .before .before .before .before .before .before .before .before .before .pre) .few-procs, c .before .loop .inv .0, c .loop-test .taken)
+slice-aggregate-close : tie.Need-slice-aggregate-close
+slice-aggregate-close c = search needs
 
-shr-if1 : tie.Need-shr-if1 Inv-loop μ-loop
-shr-if1 c =
-    omega (arith, sizes-right ours (tableOf _ _ _ _) (c .before .before .before .before .before .before .before .before .before .pre) .few-procs, c .before .loop .inv .0, c .loop-test .taken)
+close-requires : tie.Need-close-requires
+close-requires c κs = omega (arith, few (before-direct c), c .before .before .direct-calls .kept .0)
 
-returns : tie.Need-returns Inv-loop μ-loop
-unfolding bit
+slice-aggregate-none-in-own : tie.Need-slice-aggregate-none-in-own
+slice-aggregate-none-in-own c = search needs
+
+none-in-own-requires : tie.Need-none-in-own-requires
+none-in-own-requires c κs =
+    let d = before-close c in
+    omega (arith, few (before-direct d), d .before .before .direct-calls .kept .0, c .before .before .close .kept .0)
+
+returns : tie.Need-returns
 returns c =
-    let a = c .before .before .before .before .before .before .before .before .before .before .args in
-    let i = c .before .before .loop .inv in
-    sym (i .1 ∙ one-found _ (program-length (tableOf (now (a .kinds)) (now (a .xs)) (now (a .ys)) (now (a .roots)))) (sizes-right ours (tableOf _ _ _ _) (c .before .before .before .before .before .before .before .before .before .before .pre) .few-procs) (i .2) _ (c .before .loop-test .taken) (i .0) (c .if1 .taken))
-
-loop-less : tie.Need-loop-less Inv-loop μ-loop
-loop-less c =
-    let h = c .before .loop-test .taken in
-    omega arith
-
-loop-again : tie.Need-loop-again Inv-loop μ-loop
-unfolding bit
-loop-again c =
-    let a = c .before .before .before .before .before .before .before .before .before .before .args in
-    let i = c .before .before .loop .inv in
-    (omega (arith, i .0), i .1 ∙ none-found _ (program-length (tableOf (now (a .kinds)) (now (a .xs)) (now (a .ys)) (now (a .roots)))) (sizes-right ours (tableOf _ _ _ _) (c .before .before .before .before .before .before .before .before .before .before .pre) .few-procs) (i .2) _ (c .before .loop-test .taken) (i .0) (c .if1 .left), i .2)
-
-returns-2 : tie.Need-returns-2 Inv-loop μ-loop
-returns-2 c =
-    let a = c .before .before .before .before .before .before .before .before .before .args in
-    let l = c .before .loop in
-    let done : l .f ≡ 0 = omega arith in
-    sym (l .inv .1 ∙ ap (someReaches (programOf (tableOf (now (a .kinds)) (now (a .xs)) (now (a .ys)) (now (a .roots))))) done ∙ some-none (programOf (tableOf (now (a .kinds)) (now (a .xs)) (now (a .ys)) (now (a .roots)))))
+    let d = before-close (c .before) in
+    let t = table (before-direct d) in
+    let n = procs t in
+    ap not (c .none-in-own .ensures
+    ∙ ap (noneInOwn n) (c .before .before .before .close .ensures ∙ ap (closedBelow n n) (d .before .before .direct-calls .ensures))
+    ∙ own-sets (programOf t) n _ (few (before-direct d)) (sym (program-length t)))
 
 pub reaches-itself-spec : {M : Type 1} → statement M
 reaches-itself-spec =
     tie.close
     (tie.spec
-    Inv-loop
-    μ-loop
+    slice-aggregate-direct-calls
+    direct-calls-requires
     slice-aggregate-close
     close-requires
-    loop-holds
-    sub-f
-    mul-if1
-    array-read-if1
-    shr-if1
-    returns
-    loop-less
-    loop-again
-    returns-2)
+    slice-aggregate-none-in-own
+    none-in-own-requires
+    returns)

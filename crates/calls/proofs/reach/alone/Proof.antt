@@ -1,0 +1,23 @@
+-- `alone` meets its contract: one shifted by the procedure's number is the power of two, which fits the word.
+-- Assumes nothing.
+use mathlib.Core.Path.{_∙_}
+use native.Mathlib.Nat.{one-mul}
+use native.Mathlib.Omega.{arith}
+use lib.Dec.{lit<}
+use lib.Pow.{shl-exact}
+use Rattle.numbers.specs.Sizes.{wordBits}
+use borrow.Author.Needs.{needs}
+use Rattle.calls.proofs.reach.alone.Statement.{statement}
+use Rattle.calls.proofs.reach.alone.Tie as tie
+
+cast-result : tie.Need-cast-result
+cast-result c = search needs
+
+shl-result : tie.Need-shl-result
+shl-result c = search needs
+
+returns : tie.Need-returns
+returns c = shl-exact 1 (c .before .args .proc .0) wordBits (lit< tt) (omega arith) ∙ one-mul _
+
+pub alone-spec : {M : Type 1} → statement M
+alone-spec = tie.close (tie.spec cast-result shl-result returns)

@@ -1,0 +1,84 @@
+-- `none_in_own` meets its contract: from the last procedure down, the answer is that of the procedures that are left.
+-- Assumes nothing.
+use mathlib.Core.Path.{_≡_, refl, sym, ap, _∙_}
+use mathlib.Core.Bool.{Bool, true, false}
+use Prim.Native.Nat.{ℕ, _-_, _≤_}
+use native.Mathlib.Omega.{arith}
+use denote.Ref.{now}
+use lib.Dec.{eqb}
+use lib.ListN.{getD}
+use borrow.Author.Tests.{eq-eqb, ne-eqb}
+use Rattle.labels.specs.Words.{bit}
+use Rattle.numbers.specs.General.{every}
+use Rattle.numbers.proofs.EveryLaws.{every-none, passes-down, fails-down}
+use Rattle.calls.specs.Inner.{noneInOwn}
+use Rattle.calls.proofs.reach.none_in_own.Statement.{statement}
+use Rattle.calls.proofs.reach.none_in_own.Tie as tie
+
+abbrev Inv-loop : tie.InvT-loop
+Inv-loop reach n f₀ f = (f ≤ n) × (noneInOwn n reach ≡ noneInOwn f reach)
+
+abbrev μ-loop : tie.MeasureT-loop
+μ-loop reach n f₀ f = f
+
+-- The loop's head, from the end of a turn, and the test of one procedure.
+abbrev head : tie.After-bit-of Inv-loop μ-loop → tie.At-loop Inv-loop μ-loop
+head c = c .before .before .before
+
+abbrev own : tie.At-loop Inv-loop μ-loop → ℕ → Bool
+own c f = eqb (bit (getD (now (c .before .before .args .reach)) f 0) f) 0
+
+loop-holds : tie.Need-loop-holds Inv-loop μ-loop
+loop-holds c = (omega arith, refl)
+
+sub-f : tie.Need-sub-f Inv-loop μ-loop
+sub-f c = omega arith
+
+mul-bit-of : tie.Need-mul-bit-of Inv-loop μ-loop
+mul-bit-of c = omega arith
+
+shared-slice-read-bit-of : tie.Need-shared-slice-read-bit-of Inv-loop μ-loop
+shared-slice-read-bit-of c = omega arith
+
+cast-t9 : tie.Need-cast-t9 Inv-loop μ-loop
+cast-t9 c = omega arith
+
+bit-of-requires : tie.Need-bit-of-requires Inv-loop μ-loop
+bit-of-requires c κs = omega arith
+
+returns : tie.Need-returns Inv-loop μ-loop
+returns c =
+    let d = head (c .before) in
+    let set : own d (d .loop .f - 1) ≡ false = ne-eqb _ _ (λ e. c .if1 .taken (c .before .bit-of .ensures ∙ e)) in
+    sym (d .loop .inv .1 ∙ fails-down (own d) (d .loop .f) (c .before .before .before .loop-test .taken) set)
+
+loop-less : tie.Need-loop-less Inv-loop μ-loop
+loop-less c = omega arith
+
+loop-again : tie.Need-loop-again Inv-loop μ-loop
+loop-again c =
+    let d = head (c .before) in
+    let unset : own d (d .loop .f - 1) ≡ true = eq-eqb _ _ (sym (c .before .bit-of .ensures) ∙ c .if1 .left) in
+    (omega (arith, d .loop .inv .0), d .loop .inv .1 ∙ passes-down (own d) (d .loop .f) (c .before .before .before .loop-test .taken) unset)
+
+returns-2 : tie.Need-returns-2 Inv-loop μ-loop
+returns-2 c =
+    let done : c .before .loop .f ≡ 0 = omega arith in
+    sym (c .before .loop .inv .1 ∙ ap (λ (n : ℕ). every n (own (c .before))) done ∙ every-none (own (c .before)))
+
+pub none-in-own-spec : {M : Type 1} → statement M
+none-in-own-spec =
+    tie.close
+    (tie.spec
+    Inv-loop
+    μ-loop
+    loop-holds
+    sub-f
+    mul-bit-of
+    shared-slice-read-bit-of
+    cast-t9
+    bit-of-requires
+    returns
+    loop-less
+    loop-again
+    returns-2)
