@@ -6,14 +6,21 @@
 //!
 //!   cargo run --release --bin bench        (in tests/second)
 //!   cargo run --release --bin bench -- --sheets DIR
+//!   cargo run --release --bin bench -- --once NAME
 //!
 //! The second form times nothing: it writes the sheets of the inputs into a
-//! folder, for bench/emulated.c.
+//! folder, for bench/emulated.c. The third calls each entry once on one input
+//! (flat, generated, ring or figure), so that its instructions can be counted,
+//! which no other work on the machine disturbs:
+//!
+//!   valgrind --tool=callgrind --callgrind-out-file=OUT target/release/bench --once ring
+//!   callgrind_annotate --inclusive=yes --threshold=100 OUT | grep -E 'bushkalote_|Straight'
 //!
 //! Needs BUSHKALOTE_PANEL, the folder of libpanel.a, at build time; without it
 //! only the Rust version is timed. Each time is the best of several batches,
-//! in nanoseconds a call; no buffer is cleared between the calls. The answers
-//! of both versions are checked against the second program in the same run.
+//! in nanoseconds of the process's processor time a call; no buffer is cleared
+//! between the calls. The answers of both versions are checked against the
+//! second program in the same run.
 
 mod straight;
 
@@ -25,7 +32,6 @@ use second::{gen, samples, sheet, Table, LABELS, LISTING_BYTES, PROCEDURES, ROWS
 use std::hint::black_box;
 use std::path::Path;
 use std::process::ExitCode;
-use std::time::Instant;
 use straight::Straight;
 
 /// The library, if it is linked; behind a server its times would say nothing.
@@ -39,10 +45,40 @@ fn library() -> Option<Box<dyn Panel>> {
     None
 }
 
+#[repr(C)]
+struct Timespec {
+    seconds: i64,
+    nanoseconds: i64,
+}
+
+extern "C" {
+    fn clock_gettime(clock: i32, at: *mut Timespec) -> i32;
+}
+
+/// The process's processor time so far, in nanoseconds.
+fn processor_time() -> i64 {
+    const CLOCK_PROCESS_CPUTIME_ID: i32 = 2;
+    let mut at = Timespec {
+        seconds: 0,
+        nanoseconds: 0,
+    };
+    let status = unsafe { clock_gettime(CLOCK_PROCESS_CPUTIME_ID, &mut at) };
+    assert_eq!(status, 0, "no clock of the processor's time");
+    at.seconds * 1_000_000_000 + at.nanoseconds
+}
+
 /// A version by its entries on slices, or by those on records.
 enum Version<'a> {
     Slices(&'a dyn Panel),
     Records(&'a dyn Panel),
+}
+
+fn versions(library: Option<&dyn Panel>) -> Vec<Version<'_>> {
+    let mut all = vec![Version::Slices(&Straight)];
+    if let Some(library) = library {
+        all.extend([Version::Slices(library), Version::Records(library)]);
+    }
+    all
 }
 
 /// What a version is called with, and where it writes.
@@ -61,7 +97,27 @@ struct Bench<'a> {
 
 const ENTRIES: [&str; 3] = ["analyse", "read_sheet", "list_pairs"];
 
-impl Bench<'_> {
+impl<'a> Bench<'a> {
+    fn of(table: &'a Table, records: &'a [Row], sheet: &'a [u8]) -> Self {
+        let blank = Row {
+            kind: 0,
+            x: 0,
+            y: 0,
+        };
+        Bench {
+            table,
+            records,
+            sheet,
+            matrix: vec![0; LABELS],
+            listed: vec![0; LISTING_BYTES],
+            kinds: vec![0; ROWS],
+            xs: vec![0; ROWS],
+            ys: vec![0; ROWS],
+            rows: vec![blank; ROWS],
+            roots: vec![0; PROCEDURES],
+        }
+    }
+
     fn call(&mut self, version: &Version, entry: &str) {
         let reply = match version {
             Version::Slices(panel) => self.call_on_slices(*panel, entry),
@@ -108,19 +164,20 @@ impl Bench<'_> {
         let mut calls = Vec::new();
         for version in versions {
             self.call(version, entry);
-            let start = Instant::now();
+            let start = processor_time();
             self.call(version, entry);
-            let once = start.elapsed().as_nanos().max(1);
+            let once = (processor_time() - start).max(1);
             calls.push((6_000_000 / once).clamp(1, 20_000) as u32);
         }
         let mut least = vec![f64::MAX; versions.len()];
         for _ in 0..20 {
             for (v, version) in versions.iter().enumerate() {
-                let start = Instant::now();
+                let start = processor_time();
                 for _ in 0..calls[v] {
                     self.call(version, entry);
                 }
-                least[v] = least[v].min(start.elapsed().as_nanos() as f64 / f64::from(calls[v]));
+                let took = (processor_time() - start) as f64;
+                least[v] = least[v].min(took / f64::from(calls[v]));
             }
         }
         least
@@ -188,13 +245,34 @@ fn write_sheets(folder: &str) -> ExitCode {
     ExitCode::SUCCESS
 }
 
+/// Calls each entry of each version once on an input.
+fn once(name: &str) -> ExitCode {
+    let file = format!("{name}.sheet");
+    let Some(Input { table, .. }) = inputs().into_iter().find(|input| input.file == file) else {
+        eprintln!("bench: no input {name}");
+        return ExitCode::from(2);
+    };
+    let (records, bytes) = (
+        table.records().expect("an even table"),
+        sheet::spell(&table),
+    );
+    let mut bench = Bench::of(&table, &records, &bytes);
+    for version in versions(library().as_deref()) {
+        for entry in ENTRIES {
+            bench.call(&version, entry);
+        }
+    }
+    ExitCode::SUCCESS
+}
+
 fn main() -> ExitCode {
     let arguments: Vec<String> = std::env::args().skip(1).collect();
     match arguments.as_slice() {
         [] => time(),
         [option, folder] if option == "--sheets" => write_sheets(folder),
+        [option, name] if option == "--once" => once(name),
         _ => {
-            eprintln!("usage: bench [--sheets DIR]");
+            eprintln!("usage: bench [--sheets DIR | --once NAME]");
             ExitCode::from(2)
         }
     }
@@ -211,10 +289,7 @@ fn time() -> ExitCode {
     );
     for Input { name, table, .. } in &inputs() {
         let bytes = sheet::spell(table);
-        let mut versions = vec![Version::Slices(&Straight)];
-        if let Some(library) = library.as_deref() {
-            versions.extend([Version::Slices(library), Version::Records(library)]);
-        }
+        let versions = versions(library.as_deref());
         for (version, which) in versions.iter().zip(["the Rust version", "the library"]) {
             let (Version::Slices(panel) | Version::Records(panel)) = version;
             if let Err(what) = checked(which, *panel, table, &bytes) {
@@ -222,25 +297,8 @@ fn time() -> ExitCode {
                 return ExitCode::from(1);
             }
         }
-        let mut bench = Bench {
-            table,
-            records: &table.records().expect("an even table"),
-            sheet: &bytes,
-            matrix: vec![0; LABELS],
-            listed: vec![0; LISTING_BYTES],
-            kinds: vec![0; ROWS],
-            xs: vec![0; ROWS],
-            ys: vec![0; ROWS],
-            rows: vec![
-                Row {
-                    kind: 0,
-                    x: 0,
-                    y: 0
-                };
-                ROWS
-            ],
-            roots: vec![0; PROCEDURES],
-        };
+        let records = table.records().expect("an even table");
+        let mut bench = Bench::of(table, &records, &bytes);
         for entry in ENTRIES {
             match bench.best(&versions, entry)[..] {
                 [rust, slices, records] => println!(
