@@ -15,12 +15,12 @@ use Rattle.labels.specs.Words.{wordBits, alike}
 use Rattle.labels.specs.Sets.{ceiling, member, none, union}
 use Rattle.labels.specs.Matrix.{matrixWords, marked, merged, crossed}
 use Rattle.labels.proofs.SetLaws.{member-lt, member-none, member-at, member-union, members-make-the-set}
-use Rattle.labels.proofs.MatrixLaws.{marked-lt, marked-at, marked-merged, marked-crossed, marks-make-the-matrix}
+use Rattle.labels.proofs.MatrixLaws.{marked-lt, marked-none, marked-merged, marked-crossed, marks-make-the-matrix}
 use Rattle.labels.proofs.AlikeLaws.{alike-same-words, same-words-alike}
 use Rattle.calculus.specs.Syntax.{Stmt, skip, step, seq, loop, async, finish, call, Program, body}
 use Rattle.analysis.specs.Summaries.{WordSummary, emptyWords, wordsOf}
 use Rattle.analysis.specs.Rounds.{after, every, sameWords, settled}
-use Rattle.analysis.proofs.Shape.{Sized, Shaped, shaped, shaped-after, sized-joined}
+use Rattle.analysis.proofs.Shape.{Sized, Shaped, by-parts, shaped, shaped-after, sized-joined}
 use Rattle.analysis.proofs.Growth.{grown}
 
 -- A relation between numbers that max and min keep, as `_≤_` and `_≡_` are.
@@ -40,13 +40,6 @@ whole s = le-of-eq (sym (s .size))
 
 sized-beyond : {n : ℕ} {s : List ℕ} → Sized n s → (k : ℕ) → n ≤ k → getD s k 0 ≡ 0
 sized-beyond {n} {s} x k past = List·getD-eq-default s 0 {n = k} (subst (λ (m : ℕ). m ≤ k) (sym (x .size)) past)
-
-marked-none : (w i j : ℕ) → j < ceiling w → marked w (none (matrixWords w)) i j ≡ 0
-marked-none w i j h =
-    let q = i * w + j / wordBits in
-    marked-at w (none (matrixWords w)) i j h
-    ∙ sym (member-at (none (matrixWords w)) q (j % wordBits) (mod-lt j (lit< tt)))
-    ∙ member-none (matrixWords w) (q * wordBits + j % wordBits)
 
 -- What is so related for the procedures is so related for every statement.
 module _
@@ -132,16 +125,16 @@ module _
 
 -- y has every label and every pair that x has.
 pub record Within (w : ℕ) (x y : WordSummary) : Type 0 where
+  pub M : (i j : ℕ) → i < ceiling w → j < ceiling w → marked w (x .M) i j ≤ marked w (y .M) i j
   pub O : (l : ℕ) → l < ceiling w → member (x .O) l ≤ member (y .O) l
   pub L : (l : ℕ) → l < ceiling w → member (x .L) l ≤ member (y .L) l
-  pub M : (i j : ℕ) → i < ceiling w → j < ceiling w → marked w (x .M) i j ≤ marked w (y .M) i j
 
 pub empty-within : (w : ℕ) (x : WordSummary) → Within w (emptyWords w) x
 empty-within w x =
     record {
+      M = λ i j hi hj. omega (arith, marked-none w i j);
       O = λ l h. omega (arith, member-none w l);
       L = λ l h. omega (arith, member-none w l);
-      M = λ i j hi hj. omega (arith, marked-none w i j hj);
     }
 
 -- more for the procedures gives more for every statement
@@ -152,9 +145,9 @@ monotone w B C b c more s =
     let runs : (l : ℕ) → l < ceiling w → (f : ℕ) → member (B f .L) l ≤ member (C f .L) l = λ l h f. more f .L l h in
     let stays : (l : ℕ) → l < ceiling w → (f : ℕ) → member (B f .O) l ≤ member (C f .O) l = λ l h f. more f .O l h in
     record {
+      M = λ i j hi hj. meets-kept _≤_ order-kept w B C b c runs stays i j hi hj (λ f. more f .M i j hi hj) s;
       O = λ l h. stays-kept _≤_ order-kept w B C b c runs l h (stays l h) s;
       L = λ l h. runs-kept _≤_ order-kept w B C b c l h (runs l h) s;
-      M = λ i j hi hj. meets-kept _≤_ order-kept w B C b c runs stays i j hi hj (λ f. more f .M i j hi hj) s;
     }
 
 sized-same :
@@ -173,15 +166,12 @@ matrix-same w m n x y same =
 -- two summaries with the same labels and pairs are equal
 pub members-make-the-summary :
     (w : ℕ) (x y : WordSummary) → Shaped w x → Shaped w y
+    → ((i j : ℕ) → i < ceiling w → j < ceiling w → marked w (x .M) i j ≡ marked w (y .M) i j)
     → ((l : ℕ) → l < ceiling w → member (x .O) l ≡ member (y .O) l)
-    → ((l : ℕ) → l < ceiling w → member (x .L) l ≡ member (y .L) l)
-    → ((i j : ℕ) → i < ceiling w → j < ceiling w → marked w (x .M) i j ≡ marked w (y .M) i j) → x ≡ y
-members-make-the-summary w x y a b stays runs meets =
-    λ i. record {
-      O = sized-same w (x .O) (y .O) (a .O) (b .O) stays i;
-      L = sized-same w (x .L) (y .L) (a .L) (b .L) runs i;
-      M = matrix-same w (x .M) (y .M) (a .M) (b .M) meets i;
-    }
+    → ((l : ℕ) → l < ceiling w → member (x .L) l ≡ member (y .L) l) → x ≡ y
+members-make-the-summary w x y a b meets stays runs =
+    by-parts (matrix-same w (x .M) (y .M) (a .M) (b .M) meets) (sized-same w (x .O) (y .O) (a .O) (b .O) stays)
+    (sized-same w (x .L) (y .L) (a .L) (b .L) runs)
 
 -- `every` is for all
 pub every-each : (n : ℕ) (test : ℕ → Bool) → every n test ≡ true → (k : ℕ) → k < n → test k ≡ true
@@ -207,20 +197,16 @@ equal-alike n a b e = same-words-alike n a b (λ k h. ap (λ (s : List ℕ). get
 -- `sameWords` is equality
 pub same-words-equal : (w : ℕ) (x y : WordSummary) → Shaped w x → Shaped w y → sameWords w x y ≡ true → x ≡ y
 same-words-equal w x y a b e =
-    let all = and-eq-true-iff (alike w (x .O) (y .O) && alike w (x .L) (y .L)) (alike (matrixWords w) (x .M) (y .M)) .0 e in
-    let sets = and-eq-true-iff (alike w (x .O) (y .O)) (alike w (x .L) (y .L)) .0 (all .0) in
-    λ i. record {
-      O = alike-equal (a .O) (b .O) (sets .0) i;
-      L = alike-equal (a .L) (b .L) (sets .1) i;
-      M = alike-equal (a .M) (b .M) (all .1) i;
-    }
+    let all = and-eq-true-iff (alike (matrixWords w) (x .M) (y .M) && alike w (x .O) (y .O)) (alike w (x .L) (y .L)) .0 e in
+    let two = and-eq-true-iff (alike (matrixWords w) (x .M) (y .M)) (alike w (x .O) (y .O)) .0 (all .0) in
+    by-parts (alike-equal (a .M) (b .M) (two .0)) (alike-equal (a .O) (b .O) (two .1)) (alike-equal (a .L) (b .L) (all .1))
 
 pub equal-same-words : (w : ℕ) (x y : WordSummary) → x ≡ y → sameWords w x y ≡ true
 equal-same-words w x y e =
     rw (
+      equal-alike (matrixWords w) (x .M) (y .M) (ap (λ (z : WordSummary). z .M) e),
       equal-alike w (x .O) (y .O) (ap (λ (z : WordSummary). z .O) e),
       equal-alike w (x .L) (y .L) (ap (λ (z : WordSummary). z .L) e),
-      equal-alike (matrixWords w) (x .M) (y .M) (ap (λ (z : WordSummary). z .M) e),
     )
 
 module _ (w : ℕ) (p : Program) where
@@ -281,9 +267,9 @@ module _ (w : ℕ) (p : Program) where
   pub final : (k : ℕ) → 3 * length p ≤ k → (f : ℕ) → after w p (suc k) f ≡ after w p k f
   final k past f =
       members-make-the-summary w (after w p (suc k) f) (after w p k f) (shaped-after w p (suc k) f) (shaped-after w p k f)
+      (λ i j hi hj. meets-final i j hi hj k past f)
       (λ l h. stays-final l h k (omega arith) f)
       (λ l h. runs-final l h k (omega arith) f)
-      (λ i j hi hj. meets-final i j hi hj k past f)
 
   -- `settled` is a repeat of every procedure
   pub settled-repeats : (k : ℕ) → settled w p k ≡ true → (f : ℕ) → after w p (suc k) f ≡ after w p k f

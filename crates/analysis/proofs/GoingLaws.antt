@@ -1,37 +1,35 @@
--- The rounds so far: the arrays hold round k, and no earlier round repeated. A round that does not repeat leads to the next, one that does is the first.
+-- The rounds so far: the state holds round k, and no earlier round repeated. A round that does not repeat leads to the next, one that does is the first.
 -- Assumes nothing.
 use mathlib.Core.Path.{_≡_, refl, sym, ap, ap₂, _∙_, subst}
 use mathlib.Core.Bool.{Bool, true, false, _&&_, false≢true}
 use mathlib.Core.Logic.{inl, inr}
-use mathlib.Core.List.{List, [], _∷_, _++_}
+use mathlib.Core.List.{List, []}
 use Prim.Native.Nat.{ℕ, zero, suc, _+_, _*_, _≤_, _<_}
 use native.Mathlib.Decide.{decLt}
+use native.Mathlib.Nat.{zero-mul}
 use native.Mathlib.Numerals.{add-one}
 use native.Mathlib.Omega.{arith}
-use lib.ListN.{length, getD, take, drop, length-take, length-drop}
-use lib.Seq.{length-take-le, ext-getD, getD-take, getD-drop}
-use Rattle.labels.specs.Sets.{none}
-use Rattle.labels.specs.Matrix.{matrixWords, merged, cleared}
-use Rattle.labels.proofs.SetLaws.{getD-none}
-use Rattle.labels.proofs.MatrixLaws.{merged-cleared}
+use lib.ListN.{length, getD, take, drop}
+use Rattle.labels.specs.Words.{alike}
+use Rattle.labels.specs.Matrix.{matrixWords}
 use Rattle.calculus.specs.Syntax.{Stmt, skip, step, seq, loop, async, finish, call, Program, body}
 use Rattle.calculus.specs.Calls.{CallsIn}
-use Rattle.numbers.specs.Ceilings.{procCeiling}
+use Rattle.analysis.specs.Shim.{Size, ours, laid, admitted}
 use Rattle.recipe.specs.Tables.{Table, tableOf}
-use Rattle.recipe.specs.Rules.{admitted, lowest}
+use Rattle.recipe.specs.Rules.{lowest}
 use Rattle.recipe.specs.Statements.{programOf}
 use Rattle.recipe.proofs.Admitted.{sizes-right, root-row}
+use Rattle.recipe.proofs.AloneLaws.{same-statement, calls-in-range}
 use Rattle.recipe.proofs.Lowest.{Passed, passed-none, passed-more, passed-found}
 use Rattle.recipe.proofs.Readings.{program-length, body-of-root}
 use Rattle.analysis.specs.Summaries.{WordSummary, emptyWords, joinedWords, loopedWords, spawnedWords, waitedWords, wordsOf}
 use Rattle.analysis.specs.Rounds.{after, every, sameWords, settled}
 use Rattle.analysis.specs.Replies.{rounds, mainPairs}
-use Rattle.analysis.specs.Storage.{Shaped, Sizes, Turn, StoredBelow, heldFor, bodyWords}
-use Rattle.analysis.proofs.Bound.{final-settled}
-use Rattle.analysis.proofs.Shape.{sized-none, shaped-empty}
-use Rattle.analysis.proofs.Into.{by-parts}
-use Rattle.recipe.proofs.AloneLaws.{same-statement, calls-in-range}
-use Rattle.analysis.proofs.TurnLaws.{shaped-body}
+use Rattle.analysis.specs.Inner.{Turn, blockWords, stateWords, blocks, heldFor, bodyWords}
+use Rattle.analysis.proofs.Bound.{final-settled, repeats-beyond}
+use Rattle.analysis.proofs.SameLaws.{states-alike}
+use Rattle.analysis.proofs.Shape.{shaped-after}
+use Rattle.analysis.proofs.States.{length-blocks, held-blocks, state-further}
 
 -- summaries that agree on what a statement calls give it the same summary
 words-alike : (w : ℕ) (B C : ℕ → WordSummary) (s : Stmt) → ((f : ℕ) → CallsIn s f → B f ≡ C f) → wordsOf w B s ≡ wordsOf w C s
@@ -49,90 +47,90 @@ unfolding every
 every-alike zero s t e = refl
 every-alike (suc n) s t e = ap₂ _&&_ (every-alike n s t (λ k h. e k (omega arith))) (e n (omega arith))
 
-zeros-part : (k a n : ℕ) → a + k ≤ n → take k (drop a (none n)) ≡ none k
-zeros-part k a n h =
-    ext-getD 0 (take k (drop a (none n))) (none k) (size ∙ sym (sized-none k .size))
-    (λ i l. getD-take k (drop a (none n)) i 0 (omega (arith, size)) ∙ getD-drop a (none n) i 0 ∙ getD-none n (a + i) ∙ sym (getD-none k i))
-  where
-    size : length (take k (drop a (none n))) ≡ k
-    size = omega (arith, length-take k (drop a (none n)), length-drop a (none n), sized-none n .size)
+abbrev z : Size
+z = ours
 
--- arrays of zeros hold the empty summary of every procedure
-pub zeros-hold :
-    (f : ℕ) → f < procCeiling → heldFor (none procCeiling) (none procCeiling) (none (procCeiling * matrixWords 1)) f ≡ emptyWords 1
-zeros-hold f h =
-    by-parts (ap (λ (n : ℕ). n ∷ []) (getD-none procCeiling f)) (ap (λ (n : ℕ). n ∷ []) (getD-none procCeiling f))
-    (zeros-part (matrixWords 1) (f * matrixWords 1) (procCeiling * matrixWords 1) (omega arith))
+abbrev w : ℕ
+w = z .words
 
-pub record Going (kinds xs ys roots os ls ms newos newls newms : List ℕ) (k : ℕ) : Type 0 where
-  pub ok : admitted (tableOf kinds xs ys roots)
-  pub held : (f : ℕ) → f < length roots → heldFor os ls ms f ≡ after 1 (programOf (tableOf kinds xs ys roots)) k f
-  pub shaped : (f : ℕ) → f < procCeiling → Shaped 1 (heldFor os ls ms f)
-  pub sizes : Sizes os ls ms
-  pub room : (f : ℕ) → f < procCeiling → Shaped 1 (heldFor newos newls newms f)
-  pub new-sizes : Sizes newos newls newms
-  pub first : Passed (3 * length roots) (settled 1 (programOf (tableOf kinds xs ys roots))) k
+-- The state of round k: what every procedure has after k rounds.
+abbrev stateAfter : Program → ℕ → List ℕ
+stateAfter p k = blocks (z .procs) (after w p k)
 
-zero-sizes : Sizes (none procCeiling) (none procCeiling) (none (procCeiling * matrixWords 1))
-zero-sizes =
-    record {
-      os-size = sized-none procCeiling .size;
-      ls-size = sized-none procCeiling .size;
-      ms-size = sized-none (procCeiling * matrixWords 1) .size;
-    }
+whole-state : (p : Program) (k : ℕ) → length (stateAfter p k) ≡ stateWords z
+whole-state p k = length-blocks w (after w p k) (z .procs) (λ f h. shaped-after w p k f)
+
+pub record Going (kinds xs ys roots held new : List ℕ) (k : ℕ) : Type 0 where
+  pub ok : admitted z (tableOf kinds xs ys roots)
+  pub state : held ≡ stateAfter (programOf (tableOf kinds xs ys roots)) k
+  pub room : new ≡ held
+  pub first : Passed (3 * length roots) (settled w (programOf (tableOf kinds xs ys roots))) k
 
 pub rounds-begin :
-    {kinds xs ys roots : List ℕ} → admitted (tableOf kinds xs ys roots)
-    → Going kinds xs ys roots (none procCeiling) (none procCeiling) (none (procCeiling * matrixWords 1)) (none procCeiling) (none procCeiling) (none (procCeiling * matrixWords 1)) 0
+    {kinds xs ys roots held new : List ℕ} → admitted z (tableOf kinds xs ys roots)
+    → held ≡ blocks (z .procs) (λ f. emptyWords w) → new ≡ blocks (z .procs) (λ f. emptyWords w) → Going kinds xs ys roots held new 0
 unfolding after
-rounds-begin {kinds} {xs} {ys} {roots} ok =
+rounds-begin {kinds} {xs} {ys} {roots} ok e d =
     record {
       ok = ok;
-      held = λ f h. zeros-hold f (omega (arith, sizes-right (tableOf kinds xs ys roots) ok .few-procs));
-      shaped = λ f h. subst (Shaped 1) (sym (zeros-hold f h)) (shaped-empty 1);
-      sizes = zero-sizes;
-      room = λ f h. subst (Shaped 1) (sym (zeros-hold f h)) (shaped-empty 1);
-      new-sizes = zero-sizes;
-      first = passed-none (3 * length roots) (settled 1 (programOf (tableOf kinds xs ys roots)));
+      state = e;
+      room = d ∙ sym e;
+      first = passed-none (3 * length roots) (settled w (programOf (tableOf kinds xs ys roots)));
     }
 
-module _ {kinds xs ys roots os ls ms newos newls newms : List ℕ} {k : ℕ} (g : Going kinds xs ys roots os ls ms newos newls newms k) where
+module _ {kinds xs ys roots held new : List ℕ} {k : ℕ} (g : Going kinds xs ys roots held new k) where
   abbrev t : Table
   t = tableOf kinds xs ys roots
 
   abbrev p : Program
   p = programOf t
 
-  pub turn : Turn newos newls newms kinds xs ys roots os ls ms
-  turn = record { ok = g .ok; held = g .shaped; sizes = g .sizes; room = g .room; new-sizes = g .new-sizes }
+  pub few-procs : length roots ≤ z .procs
+  few-procs = sizes-right t (g .ok) .few-procs
 
-  module _ {newos' newls' newms' : List ℕ} (sizes : Sizes newos' newls' newms')
-      (s : StoredBelow newos' newls' newms' newos newls newms (length roots) (bodyWords kinds xs ys roots os ls ms)) where
-    -- the new arrays hold the next round
-    next-round : (f : ℕ) → f < length roots → heldFor newos' newls' newms' f ≡ after 1 p (suc k) f
-    unfolding after
-    next-round f h =
-        s .stored f h
-        ∙ ap (wordsOf 1 (heldFor os ls ms)) (same-statement kinds xs ys [] roots (getD roots f 0) ∙ sym (body-of-root t f h))
-        ∙ words-alike 1 (heldFor os ls ms) (after 1 p k) (body p f)
-        (λ c l. g .held c
-        (calls-in-range t (g .ok) (getD roots f 0) (root-row t (g .ok) f h) c (subst (λ (z : Stmt). CallsIn z c) (body-of-root t f h) l)))
+  pub state-size : length held ≡ stateWords z
+  state-size = ap length (g .state) ∙ whole-state p k
 
-    next-shaped : (f : ℕ) → f < procCeiling → Shaped 1 (heldFor newos' newls' newms' f)
-    next-shaped f h = either (decLt f (length roots))
-      where
-        either : Dec (f < length roots) → Shaped 1 (heldFor newos' newls' newms' f)
-        either (yes l) = subst (Shaped 1) (sym (s .stored f l)) (shaped-body turn f l)
-        either (no l) = subst (Shaped 1) (sym (s .others f h (omega arith))) (g .room f h)
+  pub room-size : length new ≡ stateWords z
+  room-size = ap length (g .room) ∙ state-size
 
-    module _ (b : Bool) (e : b ≡ every (length roots) (λ f. sameWords 1 (heldFor newos' newls' newms' f) (heldFor os ls ms f))) where
-      -- the comparison of the arrays is that of the rounds
-      compared : b ≡ settled 1 p k
+  pub turn : Turn z new kinds xs ys roots held
+  turn = record { ok = g .ok; room = room-size; state = state-size }
+
+  held-after : (f : ℕ) → f < z .procs → heldFor w held f ≡ after w p k f
+  held-after f h =
+      ap (λ (s : List ℕ). heldFor w s f) (g .state) ∙ held-blocks w (after w p k) (z .procs) (λ f h. shaped-after w p k f) f h
+
+  -- the bodies are those of the next round
+  body-after : (f : ℕ) → f < length roots → bodyWords w kinds xs ys roots held f ≡ after w p (suc k) f
+  unfolding after
+  body-after f h =
+      ap (wordsOf w (heldFor w held)) (same-statement kinds xs ys [] roots (getD roots f 0) ∙ sym (body-of-root t f h))
+      ∙ words-alike w (heldFor w held) (after w p k) (body p f)
+      (λ c l. held-after c
+      (omega (arith, few-procs, calls-in-range t (g .ok) (getD roots f 0) (root-row t (g .ok) f h) c (subst (λ (s : Stmt). CallsIn s c) (body-of-root t f h) l))))
+
+  module _ {new' : List ℕ} (e : new' ≡ laid (blocks (length roots) (bodyWords w kinds xs ys roots held)) new) where
+    next-state : new' ≡ stateAfter p (suc k)
+    next-state =
+        e
+        ∙ ap (laid (blocks (length roots) (bodyWords w kinds xs ys roots held))) (g .room ∙ g .state)
+        ∙ state-further w (length roots) (z .procs) (bodyWords w kinds xs ys roots held) (after w p (suc k)) (after w p k) few-procs
+        (shaped-after w p (suc k)) (shaped-after w p k) body-after
+        (λ f past. repeats-beyond w p k f (subst (λ (n : ℕ). n ≤ f) (sym (program-length t)) past))
+
+    module _ (b : Bool) (d : b ≡ alike (length roots * blockWords w) new' held) where
+      -- the comparison of the states is that of the rounds
+      compared : b ≡ settled w p k
       compared =
-          e
-          ∙ every-alike (length roots) _ (λ f. sameWords 1 (after 1 p (suc k) f) (after 1 p k f))
-          (λ f h. ap₂ (sameWords 1) (next-round f h) (g .held f h))
-          ∙ ap (λ (n : ℕ). every n (λ f. sameWords 1 (after 1 p (suc k) f) (after 1 p k f))) (sym (program-length t))
+          d
+          ∙ states-alike w (length roots) new' held
+          ∙ every-alike (length roots) _ (λ f. sameWords w (after w p (suc k) f) (after w p k f))
+          (λ f h. ap₂ (sameWords w)
+          (ap (λ (s : List ℕ). heldFor w s f) next-state
+          ∙ held-blocks w (after w p (suc k)) (z .procs) (λ f h. shaped-after w p (suc k) f) f (omega (arith, few-procs)))
+          (held-after f (omega (arith, few-procs))))
+          ∙ ap (λ (n : ℕ). every n (λ f. sameWords w (after w p (suc k) f) (after w p k f))) (sym (program-length t))
 
       -- a round that is not repeated has a number below the bound
       pub not-yet : b ≡ false → k < 3 * length roots
@@ -143,36 +141,26 @@ module _ {kinds xs ys roots os ls ms newos newls newms : List ℕ} {k : ℕ} (g 
           within (no h) =
               absurd
               (false≢true
-              (sym f ∙ compared ∙ final-settled 1 p k (subst (λ (n : ℕ). 3 * n ≤ k) (sym (program-length t)) (omega arith))))
+              (sym f ∙ compared ∙ final-settled w p k (subst (λ (n : ℕ). 3 * n ≤ k) (sym (program-length t)) (omega arith))))
 
-      pub rounds-go-on : b ≡ false → Going kinds xs ys roots newos' newls' newms' newos' newls' newms' (k + 1)
+      pub rounds-go-on : b ≡ false → Going kinds xs ys roots new' new' (k + 1)
       rounds-go-on f =
           record {
             ok = g .ok;
-            held = λ h l. next-round h l ∙ sym (ap (λ (n : ℕ). after 1 p n h) (add-one k));
-            shaped = next-shaped;
-            sizes = sizes;
-            room = next-shaped;
-            new-sizes = sizes;
-            first = passed-more (3 * length roots) (settled 1 p) k (not-yet f) (g .first) (sym compared ∙ f);
+            state = next-state ∙ sym (ap (stateAfter p) (add-one k));
+            room = refl;
+            first = passed-more (3 * length roots) (settled w p) k (not-yet f) (g .first) (sym compared ∙ f);
           }
 
-      pub rounds-end : b ≡ true → k ≡ rounds 1 p
+      pub rounds-end : b ≡ true → k ≡ rounds w p
       unfolding rounds
       rounds-end f =
-          passed-found (3 * length roots) (settled 1 p) k (g .first) (sym compared ∙ f)
-          ∙ ap (λ (n : ℕ). lowest (3 * n) (settled 1 p)) (sym (program-length t))
+          passed-found (3 * length roots) (settled w p) k (g .first) (sym compared ∙ f)
+          ∙ ap (λ (n : ℕ). lowest (3 * n) (settled w p)) (sym (program-length t))
 
   -- main's pairs stand first
-  pub main-first : take (matrixWords 1) ms ≡ after 1 p k 0 .M
-  main-first = ap (λ (z : WordSummary). z .M) (g .held 0 (sizes-right t (g .ok) .some-procs))
-
-  -- what the lent matrix holds once main's pairs are put in its place
-  pub pairs-put :
-      (m : List ℕ) {m' m'' : List ℕ} → k ≡ rounds 1 p → matrixWords 1 ≤ length m → m' ≡ cleared 1 m → m'' ≡ merged 1 m' (take (matrixWords 1) ms)
-      → m'' ≡ mainPairs 1 p ++ drop (matrixWords 1) m
-  pairs-put m e h c d =
-      d
-      ∙ ap (λ (x : List ℕ). merged 1 x (take (matrixWords 1) ms)) c
-      ∙ merged-cleared 1 m (take (matrixWords 1) ms) h (length-take-le (matrixWords 1) ms (omega (arith, g .sizes .ms-size)))
-      ∙ ap (λ (x : List ℕ). x ++ drop (matrixWords 1) m) (main-first ∙ ap (λ (n : ℕ). after 1 p n 0 .M) e)
+  pub main-first : k ≡ rounds w p → take (matrixWords w) held ≡ mainPairs w p
+  main-first e =
+      ap (λ (n : ℕ). take (matrixWords w) (drop n held)) (sym (zero-mul (blockWords w)))
+      ∙ ap (λ (x : WordSummary). x .M) (held-after 0 (omega (arith, few-procs, sizes-right t (g .ok) .some-procs)))
+      ∙ ap (λ (n : ℕ). after w p n 0 .M) e

@@ -9,14 +9,8 @@ use lib.ListN.{List·getD-eq-default}
 use Rattle.labels.specs.Sets.{ceiling, member, none}
 use Rattle.labels.specs.Matrix.{matrixWords, marked, merged, crossed, cleared}
 use Rattle.labels.proofs.MatrixLaws.{marks-make-the-matrix, marked-none, marked-cleared, marked-beyond-label, marked-beyond-partner, length-cleared, words-cleared}
-use Rattle.analysis.specs.Summaries.{WordSummary}
 use Rattle.analysis.proofs.Shape.{Sized, sized-none, sized-joined, sized-crossed}
 use Rattle.analysis.proofs.Meanings.{by-range, merged-marks, crossed-marks}
-
--- a summary is its three parts
-pub by-parts :
-    {x y : WordSummary} → x .O ≡ y .O → x .L ≡ y .L → x .M ≡ y .M → x ≡ y
-by-parts o l m = λ i. record { O = o i; L = l i; M = m i }
 
 module _ (w : ℕ) where
   -- whole matrices with the same marks are equal

@@ -5,7 +5,7 @@ pub mod Bound
 pub mod Into
 pub mod LabelsInRange
 pub mod RowCases
-pub mod TurnLaws
+pub mod States
 pub mod SameLaws
 pub mod GoingLaws
 pub mod ReplyLaws

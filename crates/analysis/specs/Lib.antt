@@ -1,5 +1,6 @@
+pub mod Shim
 pub mod Summaries
 pub mod Meaning
 pub mod Rounds
 pub mod Replies
-pub mod Storage
+pub mod Inner

@@ -1,10 +1,10 @@
 -- What the analysis replies, and what it leaves in the lent matrix.
-use mathlib.Core.List.{List, _++_}
+use mathlib.Core.List.{List}
 use Prim.Native.Nat.{ℕ, _*_}
-use lib.ListN.{length, drop}
-use Rattle.labels.specs.Matrix.{matrixWords}
+use lib.ListN.{length}
+use Rattle.analysis.specs.Shim.{Size, laid, judgedWith}
 use Rattle.calculus.specs.Syntax.{Program}
-use Rattle.recipe.specs.Rules.{lowest, judgedWith}
+use Rattle.recipe.specs.Rules.{lowest}
 use Rattle.recipe.specs.Statements.{programOf}
 use Rattle.recipe.specs.Tables.{Table}
 use Rattle.recipe.specs.declared.Judged.{Judged}
@@ -22,19 +22,19 @@ abbrev pub mainPairs : ℕ → Program → List ℕ
 mainPairs w p = after w p (rounds w p) 0 .M
 
 -- The rounds of an admitted table, and the refusal of any other.
-abbrev pub analysedAs : Program → Judged → Analysed
-analysedAs p Admitted = reply.Rounds (rounds 1 p)
-analysedAs p (Refused r) = reply.Refused r
+abbrev pub analysedAs : Size → Program → Judged → Analysed
+analysedAs z p Admitted = reply.Rounds (rounds (z .words) p)
+analysedAs z p (Refused r) = reply.Refused r
 
 -- The matrix of an admitted table, and the lent one of any other; words beyond it stay.
-abbrev pub matrixAs : Program → List ℕ → Judged → List ℕ
-matrixAs p m Admitted = mainPairs 1 p ++ drop (matrixWords 1) m
-matrixAs p m (Refused r) = m
+abbrev pub matrixAs : Size → Program → List ℕ → Judged → List ℕ
+matrixAs z p m Admitted = laid (mainPairs (z .words) p) m
+matrixAs z p m (Refused r) = m
 
 -- The reply to a table and a lent matrix of so many words.
-unfoldable pub analysed : Table → ℕ → Analysed
-analysed t words = analysedAs (programOf t) (judgedWith t words)
+unfoldable pub analysed : Size → Table → ℕ → Analysed
+analysed z t words = analysedAs z (programOf t) (judgedWith z t words)
 
 -- What the lent matrix holds afterwards.
-unfoldable pub matrixAfter : Table → List ℕ → List ℕ
-matrixAfter t m = matrixAs (programOf t) m (judgedWith t (length m))
+unfoldable pub matrixAfter : Size → Table → List ℕ → List ℕ
+matrixAfter z t m = matrixAs z (programOf t) m (judgedWith z t (length m))

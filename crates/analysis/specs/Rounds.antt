@@ -19,7 +19,7 @@ every (suc n) test = every n test && test n
 
 -- Whether two summaries are the same, word by word.
 abbrev pub sameWords : ℕ → WordSummary → WordSummary → Bool
-sameWords w x y = alike w (x .O) (y .O) && alike w (x .L) (y .L) && alike (matrixWords w) (x .M) (y .M)
+sameWords w x y = alike (matrixWords w) (x .M) (y .M) && alike w (x .O) (y .O) && alike w (x .L) (y .L)
 
 -- Whether round k + 1 equals round k, M included.
 abbrev pub settled : ℕ → Program → ℕ → Bool

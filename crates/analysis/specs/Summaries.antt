@@ -5,40 +5,40 @@ use Rattle.labels.specs.Sets.{none, single, union}
 use Rattle.labels.specs.Matrix.{matrixWords, merged, crossed}
 use Rattle.calculus.specs.Syntax.{Stmt, skip, step, seq, loop, async, finish, call}
 
--- The labels that may still run when the statement has completed, the labels that run, and the pairs that may run together.
+-- The pairs that may run together, the labels that may still run when the statement has completed, and the labels that run.
 pub record WordSummary : Type 0 where
+  pub M : List ℕ
   pub O : List ℕ
   pub L : List ℕ
-  pub M : List ℕ
 
 -- Skip (15), and every procedure before the first round: all three are empty.
 abbrev pub emptyWords : ℕ → WordSummary
-emptyWords w = record { O = none w; L = none w; M = none (matrixWords w) }
+emptyWords w = record { M = none (matrixWords w); O = none w; L = none w }
 
 -- A step (14): its label runs.
 abbrev pub stepWords : ℕ → ℕ → WordSummary
-stepWords w l = record { O = none w; L = single w l; M = none (matrixWords w) }
+stepWords w l = record { M = none (matrixWords w); O = none w; L = single w l }
 
 -- One after the other (10): unions, and what the first leaves running meets what the second runs.
 abbrev pub joinedWords : ℕ → WordSummary → WordSummary → WordSummary
 joinedWords w x y =
     record {
+      M = crossed w (x .O) (y .L) (merged w (x .M) (y .M));
       O = union w (x .O) (y .O);
       L = union w (x .L) (y .L);
-      M = crossed w (x .O) (y .L) (merged w (x .M) (y .M));
     }
 
 -- A loop (11): what a turn leaves running meets what a turn runs.
 abbrev pub loopedWords : ℕ → WordSummary → WordSummary
-loopedWords w x = record { O = x .O; L = x .L; M = crossed w (x .O) (x .L) (x .M) }
+loopedWords w x = record { M = crossed w (x .O) (x .L) (x .M); O = x .O; L = x .L }
 
 -- A side branch (12): all that it runs may still run afterwards.
 abbrev pub spawnedWords : WordSummary → WordSummary
-spawnedWords x = record { O = x .L; L = x .L; M = x .M }
+spawnedWords x = record { M = x .M; O = x .L; L = x .L }
 
 -- A wait (13): nothing is left running.
 abbrev pub waitedWords : ℕ → WordSummary → WordSummary
-waitedWords w x = record { O = none w; L = x .L; M = x .M }
+waitedWords w x = record { M = x .M; O = none w; L = x .L }
 
 -- The summary of a statement, where B has one for each procedure; a call has that of its procedure (16).
 abbrev pub wordsOf : ℕ → (ℕ → WordSummary) → Stmt → WordSummary

@@ -1,42 +1,52 @@
 // A row's summary, worked out from its child rows, whose numbers are smaller. Pairs are marked in a lent matrix.
 ghost use mathlib.Core.Path.{_≡_};
-ghost use Prim.Native.Nat.{_<_, _*_};
-ghost use Rattle.numbers.specs.Ceilings.{procCeiling};
-ghost use Rattle.recipe.specs.Statements.{statementAt};
-ghost use Rattle.analysis.specs.Summaries.{wordsOf};
-ghost use Rattle.recipe.specs.Alone.{rowsAlone};
-ghost use Rattle.analysis.specs.Storage.{Sizes, Ready, summaryWords, sequenced, repeated, markedInto, heldFor};
-use crate::summary::Summary;
+ghost use Prim.Native.Nat.{_<_};
+ghost use lib.ListN.{length};
+ghost use Rattle.analysis.specs.Shim.{ours};
+ghost use Rattle.analysis.specs.Summaries.{joinedWords, loopedWords};
+ghost use Rattle.analysis.specs.Inner.{summaryWords, markedInto, stateWords, heldFor, rowWords, Ready};
+use crate::state::BLOCK_WORDS;
+use crate::state::MATRIX_WORDS;
+use crate::summary::LabelSummary;
 use labels::Label;
 use numbers::ProcNumber;
+use numbers::RowNumber;
 
-// Two statements one after the other: what the first leaves running meets what the second runs.
-fn sequence(pairs: &mut [u64], first: Summary, second: Summary) -> Summary
-    ensures { λ r. ⌜ summaryWords r (now (pairs .exit)) ≡ sequenced first second (now (pairs .entry)) ⌝ }
+// Two statements one after the other, where the pairs of both are marked: what the first leaves running meets what the second runs.
+fn sequence(pairs: &mut [u64], first: LabelSummary, second: LabelSummary) -> LabelSummary
+    ensures {
+      λ r. let m = now (pairs .entry) in
+        ⌜ summaryWords r (now (pairs .exit)) ≡ joinedWords (ours .words) (summaryWords first m) (summaryWords second m) ⌝
+    }
 {
     matrix::cross(pairs, first.o, second.l);
-    first.joined(second)
+    first.joined_with(second)
 }
 
-// A loop: what a turn leaves running meets what a turn runs.
-fn repetition(pairs: &mut [u64], body: Summary) -> Summary
-    ensures { λ r. ⌜ summaryWords r (now (pairs .exit)) ≡ repeated body (now (pairs .entry)) ⌝ }
+// A loop, where the pairs of its body are marked: what a turn leaves running meets what a turn runs.
+fn repetition(pairs: &mut [u64], body: LabelSummary) -> LabelSummary
+    ensures { λ r. ⌜ summaryWords r (now (pairs .exit)) ≡ loopedWords (ours .words) (summaryWords body (now (pairs .entry))) ⌝ }
 {
     matrix::cross(pairs, body.o, body.l);
     body.looped()
 }
 
 // A call: the summary held for the procedure.
-fn called(pairs: &mut [u64], os: &[u64], ls: &[u64], ms: &[u64], callee: ProcNumber) -> Summary
-    requires { ⌜ callee .0 < procCeiling ⌝ }
-    requires { ⌜ Sizes (now os) (now ls) (now ms) ⌝ }
-    ensures { λ r. ⌜ summaryWords r (now (pairs .exit)) ≡ markedInto (now (pairs .entry)) (heldFor (now (os .entry)) (now (ls .entry)) (now (ms .entry)) (callee .0)) ⌝ }
+fn called(pairs: &mut [u64], held: &[u64], callee: ProcNumber) -> LabelSummary
+    requires { ⌜ callee .0 < ours .procs ⌝ }
+    requires { ⌜ length (now held) ≡ stateWords ours ⌝ }
+    ensures {
+      λ r. let x = heldFor (ours .words) (now (held .entry)) (callee .0) in
+        ⌜ summaryWords r (now (pairs .exit)) ≡ markedInto (ours .words) (now (pairs .entry)) x ⌝
+    }
 {
-    let f = callee.0 as usize;
-    let start = f * Label::CEILING;
-    let end = start + Label::CEILING;
-    matrix::merge(pairs, &ms[start..end]);
-    Summary { o: os[f], l: ls[f] }
+    let start = callee.0 as usize * BLOCK_WORDS;
+    let end = start + MATRIX_WORDS;
+    matrix::merge(pairs, &held[start..end]);
+    LabelSummary {
+        o: held[end],
+        l: held[end + 1],
+    }
 }
 
 // The summary of the statement of a row, its pairs marked besides.
@@ -45,32 +55,34 @@ pub(crate) fn row_summary(
     kinds: &[u8],
     xs: &[u16],
     ys: &[u16],
-    os: &[u64],
-    ls: &[u64],
-    ms: &[u64],
-    row: usize,
-) -> Summary
-    requires { ⌜ Ready (now pairs) (now kinds) (now xs) (now ys) (now os) (now ls) (now ms) row ⌝ }
-    ensures { λ r. ⌜ summaryWords r (now (pairs .exit)) ≡ markedInto (now (pairs .entry)) (wordsOf 1 (heldFor (now (os .entry)) (now (ls .entry)) (now (ms .entry))) (statementAt (rowsAlone (now (kinds .entry)) (now (xs .entry)) (now (ys .entry))) row)) ⌝ }
+    held: &[u64],
+    row: RowNumber,
+) -> LabelSummary
+    requires { ⌜ Ready ours (now pairs) (now kinds) (now xs) (now ys) (now held) (row .0) ⌝ }
+    ensures {
+      λ r. let x = rowWords (ours .words) (now (kinds .entry)) (now (xs .entry)) (now (ys .entry)) (now (held .entry)) (row .0) in
+        ⌜ summaryWords r (now (pairs .exit)) ≡ markedInto (ours .words) (now (pairs .entry)) x ⌝
+    }
 {
-    let kind = kinds[row];
-    let x = xs[row];
-    let y = ys[row];
+    let i = row.0 as usize;
+    let kind = kinds[i];
+    let x = xs[i];
+    let y = ys[i];
     match kind {
-        0 => Summary::empty(),
-        1 => Summary::step(Label(x as u8)),
+        0 => LabelSummary::empty(),
+        1 => LabelSummary::step(Label(x as u8)),
         2 => {
-            let first = row_summary(pairs, kinds, xs, ys, os, ls, ms, x as usize);
-            let second = row_summary(pairs, kinds, xs, ys, os, ls, ms, y as usize);
+            let first = row_summary(pairs, kinds, xs, ys, held, RowNumber(x));
+            let second = row_summary(pairs, kinds, xs, ys, held, RowNumber(y));
             sequence(pairs, first, second)
         }
         3 => {
-            let body = row_summary(pairs, kinds, xs, ys, os, ls, ms, x as usize);
+            let body = row_summary(pairs, kinds, xs, ys, held, RowNumber(x));
             repetition(pairs, body)
         }
-        4 => row_summary(pairs, kinds, xs, ys, os, ls, ms, x as usize).spawned(),
-        5 => row_summary(pairs, kinds, xs, ys, os, ls, ms, x as usize).waited(),
-        6 => called(pairs, os, ls, ms, ProcNumber(x)),
-        7..=255 => Summary::empty(),
+        4 => row_summary(pairs, kinds, xs, ys, held, RowNumber(x)).spawned(),
+        5 => row_summary(pairs, kinds, xs, ys, held, RowNumber(x)).waited(),
+        6 => called(pairs, held, ProcNumber(x)),
+        7..=255 => LabelSummary::empty(),
     }
 }
