@@ -11,15 +11,17 @@ use lib.Dec.{lit<}
 use lib.ListN.{length, getD, List·getD-eq-default}
 use lib.Seq.{ext-getD}
 use borrow.Author.Count.{below-more}
-use Rattle.labels.specs.Words.{wordBits, alike}
-use Rattle.labels.specs.Sets.{ceiling, member, none, union}
-use Rattle.labels.specs.Matrix.{matrixWords, marked, merged, crossed}
+use Rattle.numbers.specs.Sizes.{wordBits, labelCeiling, matrixWords}
+use Rattle.numbers.proofs.EveryLaws.{every-passes, passes-every}
+use Rattle.labels.specs.Words.{alike}
+use Rattle.labels.specs.Sets.{member, none, union}
 use Rattle.labels.proofs.SetLaws.{member-lt, member-none, member-at, member-union, members-make-the-set}
-use Rattle.labels.proofs.MatrixLaws.{marked-lt, marked-none, marked-merged, marked-crossed, marks-make-the-matrix}
 use Rattle.labels.proofs.AlikeLaws.{alike-same-words, same-words-alike}
+use Rattle.matrix.specs.Matrix.{marked, merged, crossed}
+use Rattle.matrix.proofs.MatrixLaws.{marked-lt, marked-none, marked-merged, marked-crossed, marks-make-the-matrix}
 use Rattle.calculus.specs.Syntax.{Stmt, skip, step, seq, loop, async, finish, call, Program, body}
 use Rattle.analysis.specs.Summaries.{WordSummary, emptyWords, wordsOf}
-use Rattle.analysis.specs.Rounds.{after, every, sameWords, settled}
+use Rattle.analysis.specs.Rounds.{after, sameWords, settled}
 use Rattle.analysis.proofs.Shape.{Sized, Shaped, by-parts, shaped, shaped-after, sized-joined}
 use Rattle.analysis.proofs.Growth.{grown}
 
@@ -51,21 +53,21 @@ module _
     (c : (f : ℕ) → Shaped w (C f))
   where
     union-kept :
-        (l : ℕ) (u v x y : List ℕ) → l < ceiling w → Sized w u → Sized w x
+        (l : ℕ) (u v x y : List ℕ) → l < labelCeiling w → Sized w u → Sized w x
         → R (member u l) (member x l) → R (member v l) (member y l) → R (member (union w u v) l) (member (union w x y) l)
     union-kept l u v x y h su sx p q =
         rw (member-union w u v l (su .size) h, member-union w x y l (sx .size) h) (kept .either p q)
 
     crossed-kept :
-        (i j : ℕ) (u v m x y n : List ℕ) → i < ceiling w → j < ceiling w → Sized (matrixWords w) m → Sized (matrixWords w) n
-        → ((l : ℕ) → l < ceiling w → R (member u l) (member x l)) → ((l : ℕ) → l < ceiling w → R (member v l) (member y l))
+        (i j : ℕ) (u v m x y n : List ℕ) → i < labelCeiling w → j < labelCeiling w → Sized (matrixWords w) m → Sized (matrixWords w) n
+        → ((l : ℕ) → l < labelCeiling w → R (member u l) (member x l)) → ((l : ℕ) → l < labelCeiling w → R (member v l) (member y l))
         → R (marked w m i j) (marked w n i j) → R (marked w (crossed w u v m) i j) (marked w (crossed w x y n) i j)
     crossed-kept i j u v m x y n hi hj sm sn p q r =
         rw (marked-crossed w m (whole sm) u v i j hi hj, marked-crossed w n (whole sn) x y i j hi hj)
         (kept .either r (kept .either (kept .both (p i hi) (q j hj)) (kept .both (q i hi) (p j hj))))
 
     merged-kept :
-        (i j : ℕ) (m n m' n' : List ℕ) → i < ceiling w → j < ceiling w → Sized (matrixWords w) m → Sized (matrixWords w) m'
+        (i j : ℕ) (m n m' n' : List ℕ) → i < labelCeiling w → j < labelCeiling w → Sized (matrixWords w) m → Sized (matrixWords w) m'
         → R (marked w m i j) (marked w m' i j) → R (marked w n i j) (marked w n' i j)
         → R (marked w (merged w m n) i j) (marked w (merged w m' n') i j)
     merged-kept i j m n m' n' hi hj sm sm' p q =
@@ -73,7 +75,7 @@ module _
 
     -- L at a label depends on L at that label
     pub runs-kept :
-        (l : ℕ) → l < ceiling w → ((f : ℕ) → R (member (B f .L) l) (member (C f .L) l))
+        (l : ℕ) → l < labelCeiling w → ((f : ℕ) → R (member (B f .L) l) (member (C f .L) l))
         → (s : Stmt) → R (member (wordsOf w B s .L) l) (member (wordsOf w C s .L) l)
     runs-kept l h runs skip = kept .same _
     runs-kept l h runs (step k) = kept .same _
@@ -84,10 +86,10 @@ module _
     runs-kept l h runs (finish s) = runs-kept l h runs s
     runs-kept l h runs (call f) = runs f
 
-    module _ (runs : (l : ℕ) → l < ceiling w → (f : ℕ) → R (member (B f .L) l) (member (C f .L) l)) where
+    module _ (runs : (l : ℕ) → l < labelCeiling w → (f : ℕ) → R (member (B f .L) l) (member (C f .L) l)) where
       -- O at a label depends on O at that label, and on L
       pub stays-kept :
-          (l : ℕ) → l < ceiling w → ((f : ℕ) → R (member (B f .O) l) (member (C f .O) l))
+          (l : ℕ) → l < labelCeiling w → ((f : ℕ) → R (member (B f .O) l) (member (C f .O) l))
           → (s : Stmt) → R (member (wordsOf w B s .O) l) (member (wordsOf w C s .O) l)
       stays-kept l h stays skip = kept .same _
       stays-kept l h stays (step k) = kept .same _
@@ -98,9 +100,9 @@ module _
       stays-kept l h stays (finish s) = kept .same _
       stays-kept l h stays (call f) = stays f
 
-      module _ (stays : (l : ℕ) → l < ceiling w → (f : ℕ) → R (member (B f .O) l) (member (C f .O) l)) where
+      module _ (stays : (l : ℕ) → l < labelCeiling w → (f : ℕ) → R (member (B f .O) l) (member (C f .O) l)) where
         across :
-            (i j : ℕ) → i < ceiling w → j < ceiling w → (s t : Stmt) (m n : List ℕ) → Sized (matrixWords w) m → Sized (matrixWords w) n
+            (i j : ℕ) → i < labelCeiling w → j < labelCeiling w → (s t : Stmt) (m n : List ℕ) → Sized (matrixWords w) m → Sized (matrixWords w) n
             → R (marked w m i j) (marked w n i j)
             → R (marked w (crossed w (wordsOf w B s .O) (wordsOf w B t .L) m) i j) (marked w (crossed w (wordsOf w C s .O) (wordsOf w C t .L) n) i j)
         across i j hi hj s t m n sm sn r =
@@ -108,7 +110,7 @@ module _
 
         -- M at a pair depends on M at that pair, and on O and L
         pub meets-kept :
-            (i j : ℕ) → i < ceiling w → j < ceiling w → ((f : ℕ) → R (marked w (B f .M) i j) (marked w (C f .M) i j))
+            (i j : ℕ) → i < labelCeiling w → j < labelCeiling w → ((f : ℕ) → R (marked w (B f .M) i j) (marked w (C f .M) i j))
             → (s : Stmt) → R (marked w (wordsOf w B s .M) i j) (marked w (wordsOf w C s .M) i j)
         meets-kept i j hi hj meets skip = kept .same _
         meets-kept i j hi hj meets (step k) = kept .same _
@@ -125,9 +127,9 @@ module _
 
 -- y has every label and every pair that x has.
 pub record Within (w : ℕ) (x y : WordSummary) : Type 0 where
-  pub M : (i j : ℕ) → i < ceiling w → j < ceiling w → marked w (x .M) i j ≤ marked w (y .M) i j
-  pub O : (l : ℕ) → l < ceiling w → member (x .O) l ≤ member (y .O) l
-  pub L : (l : ℕ) → l < ceiling w → member (x .L) l ≤ member (y .L) l
+  pub M : (i j : ℕ) → i < labelCeiling w → j < labelCeiling w → marked w (x .M) i j ≤ marked w (y .M) i j
+  pub O : (l : ℕ) → l < labelCeiling w → member (x .O) l ≤ member (y .O) l
+  pub L : (l : ℕ) → l < labelCeiling w → member (x .L) l ≤ member (y .L) l
 
 pub empty-within : (w : ℕ) (x : WordSummary) → Within w (emptyWords w) x
 empty-within w x =
@@ -142,8 +144,8 @@ pub monotone :
     (w : ℕ) (B C : ℕ → WordSummary) → ((f : ℕ) → Shaped w (B f)) → ((f : ℕ) → Shaped w (C f)) → ((f : ℕ) → Within w (B f) (C f))
     → (s : Stmt) → Within w (wordsOf w B s) (wordsOf w C s)
 monotone w B C b c more s =
-    let runs : (l : ℕ) → l < ceiling w → (f : ℕ) → member (B f .L) l ≤ member (C f .L) l = λ l h f. more f .L l h in
-    let stays : (l : ℕ) → l < ceiling w → (f : ℕ) → member (B f .O) l ≤ member (C f .O) l = λ l h f. more f .O l h in
+    let runs : (l : ℕ) → l < labelCeiling w → (f : ℕ) → member (B f .L) l ≤ member (C f .L) l = λ l h f. more f .L l h in
+    let stays : (l : ℕ) → l < labelCeiling w → (f : ℕ) → member (B f .O) l ≤ member (C f .O) l = λ l h f. more f .O l h in
     record {
       M = λ i j hi hj. meets-kept _≤_ order-kept w B C b c runs stays i j hi hj (λ f. more f .M i j hi hj) s;
       O = λ l h. stays-kept _≤_ order-kept w B C b c runs l h (stays l h) s;
@@ -151,14 +153,14 @@ monotone w B C b c more s =
     }
 
 sized-same :
-    (w : ℕ) (a b : List ℕ) → Sized w a → Sized w b → ((l : ℕ) → l < ceiling w → member a l ≡ member b l) → a ≡ b
+    (w : ℕ) (a b : List ℕ) → Sized w a → Sized w b → ((l : ℕ) → l < labelCeiling w → member a l ≡ member b l) → a ≡ b
 sized-same w a b x y same =
     members-make-the-set a b (x .size ∙ sym (y .size)) (x .words) (y .words)
-    (λ l h. same l (subst (λ (n : ℕ). l < ceiling n) (x .size) h))
+    (λ l h. same l (subst (λ (n : ℕ). l < labelCeiling n) (x .size) h))
 
 matrix-same :
     (w : ℕ) (m n : List ℕ) → Sized (matrixWords w) m → Sized (matrixWords w) n
-    → ((i j : ℕ) → i < ceiling w → j < ceiling w → marked w m i j ≡ marked w n i j) → m ≡ n
+    → ((i j : ℕ) → i < labelCeiling w → j < labelCeiling w → marked w m i j ≡ marked w n i j) → m ≡ n
 matrix-same w m n x y same =
     marks-make-the-matrix w m n (x .size ∙ sym (y .size)) (x .words) (y .words)
     (λ k past. sized-beyond x k past ∙ sym (sized-beyond y k past)) same
@@ -166,33 +168,19 @@ matrix-same w m n x y same =
 -- two summaries with the same labels and pairs are equal
 pub members-make-the-summary :
     (w : ℕ) (x y : WordSummary) → Shaped w x → Shaped w y
-    → ((i j : ℕ) → i < ceiling w → j < ceiling w → marked w (x .M) i j ≡ marked w (y .M) i j)
-    → ((l : ℕ) → l < ceiling w → member (x .O) l ≡ member (y .O) l)
-    → ((l : ℕ) → l < ceiling w → member (x .L) l ≡ member (y .L) l) → x ≡ y
+    → ((i j : ℕ) → i < labelCeiling w → j < labelCeiling w → marked w (x .M) i j ≡ marked w (y .M) i j)
+    → ((l : ℕ) → l < labelCeiling w → member (x .O) l ≡ member (y .O) l)
+    → ((l : ℕ) → l < labelCeiling w → member (x .L) l ≡ member (y .L) l) → x ≡ y
 members-make-the-summary w x y a b meets stays runs =
     by-parts (matrix-same w (x .M) (y .M) (a .M) (b .M) meets) (sized-same w (x .O) (y .O) (a .O) (b .O) stays)
     (sized-same w (x .L) (y .L) (a .L) (b .L) runs)
 
--- `every` is for all
-pub every-each : (n : ℕ) (test : ℕ → Bool) → every n test ≡ true → (k : ℕ) → k < n → test k ≡ true
-unfolding every
-every-each zero test e k h = absurd (not-suc-le-zero h)
-every-each (suc n) test e k h =
-    let both = and-eq-true-iff (every n test) (test n) .0 e in
-    below-more (λ k. test k ≡ true) n (every-each n test (both .0)) (both .1) k (omega arith)
-
-pub each-every : (n : ℕ) (test : ℕ → Bool) → ((k : ℕ) → k < n → test k ≡ true) → every n test ≡ true
-unfolding every
-each-every zero test each = refl
-each-every (suc n) test each =
-    and-eq-true-iff (every n test) (test n) .1 (each-every n test (λ k h. each k (omega arith)), each n (le-refl (suc n)))
-
 alike-equal : {n : ℕ} {a b : List ℕ} → Sized n a → Sized n b → alike n a b ≡ true → a ≡ b
 alike-equal {n} {a} {b} x y e =
-    ext-getD 0 a b (x .size ∙ sym (y .size)) (λ k h. alike-same-words n a b e k (subst (λ (m : ℕ). k < m) (x .size) h))
+    ext-getD 0 a b (x .size ∙ sym (y .size)) (λ k h. alike-same-words a b n e k (subst (λ (m : ℕ). k < m) (x .size) h))
 
 equal-alike : (n : ℕ) (a b : List ℕ) → a ≡ b → alike n a b ≡ true
-equal-alike n a b e = same-words-alike n a b (λ k h. ap (λ (s : List ℕ). getD s k 0) e)
+equal-alike n a b e = same-words-alike a b n (λ k h. ap (λ (s : List ℕ). getD s k 0) e)
 
 -- `sameWords` is equality
 pub same-words-equal : (w : ℕ) (x y : WordSummary) → Shaped w x → Shaped w y → sameWords w x y ≡ true → x ≡ y
@@ -240,14 +228,14 @@ module _ (w : ℕ) (p : Program) where
       (λ k started e f. lasts k started e (body p f))
 
   pub runs-final :
-      (l : ℕ) → l < ceiling w → (k : ℕ) → length p ≤ k → (f : ℕ) → member (after w p (suc k) f .L) l ≡ member (after w p k f .L) l
+      (l : ℕ) → l < labelCeiling w → (k : ℕ) → length p ≤ k → (f : ℕ) → member (after w p (suc k) f .L) l ≡ member (after w p k f .L) l
   runs-final l h k past =
       value-final 0 (λ x. member (x .L) l) (λ x. member-lt (x .L) l) (λ k f. grows k f .L l h)
       (λ k started e. runs-kept _≡_ equality-kept w _ _ (shaped-after w p (suc k)) (shaped-after w p k) l h e)
       k (omega arith)
 
   pub stays-final :
-      (l : ℕ) → l < ceiling w → (k : ℕ) → 2 * length p ≤ k → (f : ℕ) → member (after w p (suc k) f .O) l ≡ member (after w p k f .O) l
+      (l : ℕ) → l < labelCeiling w → (k : ℕ) → 2 * length p ≤ k → (f : ℕ) → member (after w p (suc k) f .O) l ≡ member (after w p k f .O) l
   stays-final l h k past =
       value-final (length p) (λ x. member (x .O) l) (λ x. member-lt (x .O) l) (λ k f. grows k f .O l h)
       (λ k started e. stays-kept _≡_ equality-kept w _ _ (shaped-after w p (suc k)) (shaped-after w p k)
@@ -255,7 +243,7 @@ module _ (w : ℕ) (p : Program) where
       k (omega arith)
 
   pub meets-final :
-      (i j : ℕ) → i < ceiling w → j < ceiling w → (k : ℕ) → 3 * length p ≤ k
+      (i j : ℕ) → i < labelCeiling w → j < labelCeiling w → (k : ℕ) → 3 * length p ≤ k
       → (f : ℕ) → marked w (after w p (suc k) f .M) i j ≡ marked w (after w p k f .M) i j
   meets-final i j hi hj k past =
       value-final (2 * length p) (λ x. marked w (x .M) i j) (λ x. marked-lt w (x .M) i j) (λ k f. grows k f .M i j hi hj)
@@ -278,12 +266,12 @@ module _ (w : ℕ) (p : Program) where
       either : Dec (f < length p) → after w p (suc k) f ≡ after w p k f
       either (yes below) =
           same-words-equal w _ _ (shaped-after w p (suc k) f) (shaped-after w p k f)
-          (every-each (length p) (λ f. sameWords w (after w p (suc k) f) (after w p k f)) e f below)
+          (every-passes (λ f. sameWords w (after w p (suc k) f) (after w p k f)) (length p) e f below)
       either (no past) = repeats-beyond k f (omega arith)
 
   pub repeats-settled : (k : ℕ) → ((f : ℕ) → after w p (suc k) f ≡ after w p k f) → settled w p k ≡ true
   repeats-settled k e =
-      each-every (length p) (λ f. sameWords w (after w p (suc k) f) (after w p k f))
+      passes-every (λ f. sameWords w (after w p (suc k) f) (after w p k f)) (length p)
       (λ f below. equal-same-words w _ _ (e f))
 
   pub final-settled : (k : ℕ) → 3 * length p ≤ k → settled w p k ≡ true

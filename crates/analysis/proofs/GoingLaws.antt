@@ -10,24 +10,24 @@ use native.Mathlib.Nat.{zero-mul}
 use native.Mathlib.Numerals.{add-one}
 use native.Mathlib.Omega.{arith}
 use lib.ListN.{length, getD, take, drop}
+use Rattle.numbers.specs.Sizes.{matrixWords, Size, ours}
+use Rattle.numbers.specs.General.{laid, lowest, every}
+use Rattle.numbers.proofs.LowestLaws.{Passed, passed-none, passed-more, passed-found}
 use Rattle.labels.specs.Words.{alike}
-use Rattle.labels.specs.Matrix.{matrixWords}
 use Rattle.calculus.specs.Syntax.{Stmt, skip, step, seq, loop, async, finish, call, Program, body}
 use Rattle.calculus.specs.Calls.{CallsIn}
-use Rattle.analysis.specs.Shim.{Size, ours, laid, admitted}
+use Rattle.recipe.specs.Rules.{admitted}
 use Rattle.recipe.specs.Tables.{Table, tableOf}
-use Rattle.recipe.specs.Rules.{lowest}
 use Rattle.recipe.specs.Statements.{programOf}
 use Rattle.recipe.proofs.Admitted.{sizes-right, root-row}
 use Rattle.recipe.proofs.AloneLaws.{same-statement, calls-in-range}
-use Rattle.recipe.proofs.Lowest.{Passed, passed-none, passed-more, passed-found}
 use Rattle.recipe.proofs.Readings.{program-length, body-of-root}
 use Rattle.analysis.specs.Summaries.{WordSummary, emptyWords, joinedWords, loopedWords, spawnedWords, waitedWords, wordsOf}
-use Rattle.analysis.specs.Rounds.{after, every, sameWords, settled}
+use Rattle.analysis.specs.Rounds.{after, sameWords, settled}
 use Rattle.analysis.specs.Replies.{rounds, mainPairs}
 use Rattle.analysis.specs.Inner.{Turn, blockWords, stateWords, blocks, heldFor, bodyWords}
 use Rattle.analysis.proofs.Bound.{final-settled, repeats-beyond}
-use Rattle.analysis.proofs.SameLaws.{states-alike}
+use Rattle.analysis.proofs.SameLaws.{every-alike, states-alike}
 use Rattle.analysis.proofs.Shape.{shaped-after}
 use Rattle.analysis.proofs.States.{length-blocks, held-blocks, state-further}
 
@@ -42,43 +42,33 @@ words-alike w B C (async s) e = ap spawnedWords (words-alike w B C s e)
 words-alike w B C (finish s) e = ap (waitedWords w) (words-alike w B C s e)
 words-alike w B C (call f) e = e f refl
 
-every-alike : (n : ℕ) (s t : ℕ → Bool) → ((k : ℕ) → k < n → s k ≡ t k) → every n s ≡ every n t
-unfolding every
-every-alike zero s t e = refl
-every-alike (suc n) s t e = ap₂ _&&_ (every-alike n s t (λ k h. e k (omega arith))) (e n (omega arith))
-
-abbrev z : Size
-z = ours
-
-abbrev w : ℕ
-w = z .words
-
 -- The state of round k: what every procedure has after k rounds.
-abbrev stateAfter : Program → ℕ → List ℕ
-stateAfter p k = blocks (z .procs) (after w p k)
+abbrev stateAfter : Size → Program → ℕ → List ℕ
+stateAfter z p k = blocks (z .procs) (after (z .words) p k)
 
-whole-state : (p : Program) (k : ℕ) → length (stateAfter p k) ≡ stateWords z
-whole-state p k = length-blocks w (after w p k) (z .procs) (λ f h. shaped-after w p k f)
-
-pub record Going (kinds xs ys roots held new : List ℕ) (k : ℕ) : Type 0 where
+pub record Going (z : Size) (kinds xs ys roots held new : List ℕ) (k : ℕ) : Type 0 where
   pub ok : admitted z (tableOf kinds xs ys roots)
-  pub state : held ≡ stateAfter (programOf (tableOf kinds xs ys roots)) k
+  pub state : held ≡ stateAfter z (programOf (tableOf kinds xs ys roots)) k
   pub room : new ≡ held
-  pub first : Passed (3 * length roots) (settled w (programOf (tableOf kinds xs ys roots))) k
+  pub first : Passed (3 * length roots) (settled (z .words) (programOf (tableOf kinds xs ys roots))) k
 
 pub rounds-begin :
-    {kinds xs ys roots held new : List ℕ} → admitted z (tableOf kinds xs ys roots)
-    → held ≡ blocks (z .procs) (λ f. emptyWords w) → new ≡ blocks (z .procs) (λ f. emptyWords w) → Going kinds xs ys roots held new 0
+    {z : Size} {kinds xs ys roots held new : List ℕ} → admitted z (tableOf kinds xs ys roots)
+    → held ≡ blocks (z .procs) (λ f. emptyWords (z .words)) → new ≡ blocks (z .procs) (λ f. emptyWords (z .words))
+    → Going z kinds xs ys roots held new 0
 unfolding after
-rounds-begin {kinds} {xs} {ys} {roots} ok e d =
+rounds-begin {z} {kinds} {xs} {ys} {roots} ok e d =
     record {
       ok = ok;
       state = e;
       room = d ∙ sym e;
-      first = passed-none (3 * length roots) (settled w (programOf (tableOf kinds xs ys roots)));
+      first = passed-none (3 * length roots) (settled (z .words) (programOf (tableOf kinds xs ys roots)));
     }
 
-module _ {kinds xs ys roots held new : List ℕ} {k : ℕ} (g : Going kinds xs ys roots held new k) where
+module _ {z : Size} {kinds xs ys roots held new : List ℕ} {k : ℕ} (g : Going z kinds xs ys roots held new k) where
+  abbrev w : ℕ
+  w = z .words
+
   abbrev t : Table
   t = tableOf kinds xs ys roots
 
@@ -86,10 +76,10 @@ module _ {kinds xs ys roots held new : List ℕ} {k : ℕ} (g : Going kinds xs y
   p = programOf t
 
   pub few-procs : length roots ≤ z .procs
-  few-procs = sizes-right t (g .ok) .few-procs
+  few-procs = sizes-right z t (g .ok) .few-procs
 
   pub state-size : length held ≡ stateWords z
-  state-size = ap length (g .state) ∙ whole-state p k
+  state-size = ap length (g .state) ∙ length-blocks w (after w p k) (z .procs) (λ f h. shaped-after w p k f)
 
   pub room-size : length new ≡ stateWords z
   room-size = ap length (g .room) ∙ state-size
@@ -108,10 +98,10 @@ module _ {kinds xs ys roots held new : List ℕ} {k : ℕ} (g : Going kinds xs y
       ap (wordsOf w (heldFor w held)) (same-statement kinds xs ys [] roots (getD roots f 0) ∙ sym (body-of-root t f h))
       ∙ words-alike w (heldFor w held) (after w p k) (body p f)
       (λ c l. held-after c
-      (omega (arith, few-procs, calls-in-range t (g .ok) (getD roots f 0) (root-row t (g .ok) f h) c (subst (λ (s : Stmt). CallsIn s c) (body-of-root t f h) l))))
+      (omega (arith, few-procs, calls-in-range z t (g .ok) (getD roots f 0) (root-row z t (g .ok) f h) c (subst (λ (s : Stmt). CallsIn s c) (body-of-root t f h) l))))
 
   module _ {new' : List ℕ} (e : new' ≡ laid (blocks (length roots) (bodyWords w kinds xs ys roots held)) new) where
-    next-state : new' ≡ stateAfter p (suc k)
+    next-state : new' ≡ stateAfter z p (suc k)
     next-state =
         e
         ∙ ap (laid (blocks (length roots) (bodyWords w kinds xs ys roots held))) (g .room ∙ g .state)
@@ -143,11 +133,11 @@ module _ {kinds xs ys roots held new : List ℕ} {k : ℕ} (g : Going kinds xs y
               (false≢true
               (sym f ∙ compared ∙ final-settled w p k (subst (λ (n : ℕ). 3 * n ≤ k) (sym (program-length t)) (omega arith))))
 
-      pub rounds-go-on : b ≡ false → Going kinds xs ys roots new' new' (k + 1)
+      pub rounds-go-on : b ≡ false → Going z kinds xs ys roots new' new' (k + 1)
       rounds-go-on f =
           record {
             ok = g .ok;
-            state = next-state ∙ sym (ap (stateAfter p) (add-one k));
+            state = next-state ∙ sym (ap (stateAfter z p) (add-one k));
             room = refl;
             first = passed-more (3 * length roots) (settled w p) k (not-yet f) (g .first) (sym compared ∙ f);
           }
@@ -162,5 +152,5 @@ module _ {kinds xs ys roots held new : List ℕ} {k : ℕ} (g : Going kinds xs y
   pub main-first : k ≡ rounds w p → take (matrixWords w) held ≡ mainPairs w p
   main-first e =
       ap (λ (n : ℕ). take (matrixWords w) (drop n held)) (sym (zero-mul (blockWords w)))
-      ∙ ap (λ (x : WordSummary). x .M) (held-after 0 (omega (arith, few-procs, sizes-right t (g .ok) .some-procs)))
+      ∙ ap (λ (x : WordSummary). x .M) (held-after 0 (omega (arith, few-procs, sizes-right z t (g .ok) .some-procs)))
       ∙ ap (λ (n : ℕ). after w p n 0 .M) e

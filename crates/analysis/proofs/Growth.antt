@@ -7,8 +7,8 @@ use native.Mathlib.Nat.{eq-or-lt-of-le, le-of-suc-le-suc, not-suc-le-zero}
 use native.Mathlib.Decide.{decLe}
 use native.Mathlib.Omega.{arith}
 use borrow.Author.Count.{below-more}
-use Rattle.labels.specs.Words.{sumBelow}
-use Rattle.labels.proofs.SumLaws.{sum-alike, sum-bounded}
+use Rattle.numbers.specs.General.{sumBelow}
+use Rattle.numbers.proofs.SumLaws.{sum-alike, sum-bounded}
 
 -- the terms are the same below n, or the sum is larger
 same-or-more :

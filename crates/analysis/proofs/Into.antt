@@ -2,13 +2,18 @@
 -- Assumes nothing.
 use mathlib.Core.Path.{_≡_, sym, ap, _∙_, subst}
 use mathlib.Core.List.{List}
-use Prim.Native.Nat.{ℕ, _≤_, min, max}
+use Prim.Native.Nat.{ℕ, _≤_, _<_, min, max}
 use native.Mathlib.Nat.{max-zero, zero-max, le-of-eq}
 use native.Mathlib.Omega.{arith}
-use lib.ListN.{List·getD-eq-default}
-use Rattle.labels.specs.Sets.{ceiling, member, none}
-use Rattle.labels.specs.Matrix.{matrixWords, marked, merged, crossed, cleared}
-use Rattle.labels.proofs.MatrixLaws.{marks-make-the-matrix, marked-none, marked-cleared, marked-beyond-label, marked-beyond-partner, length-cleared, words-cleared}
+use lib.Bits.{bitOr, or-self}
+use lib.ListN.{length, getD, List·getD-eq-default}
+use lib.Seq.{ext-getD}
+use Rattle.numbers.specs.Sizes.{labelCeiling, matrixWords}
+use Rattle.labels.specs.Sets.{member, none, joined}
+use Rattle.labels.proofs.SetLaws.{length-joined}
+use Rattle.labels.proofs.ChangedLaws.{changed-below, changed-beyond}
+use Rattle.matrix.specs.Matrix.{marked, merged, crossed, cleared}
+use Rattle.matrix.proofs.MatrixLaws.{marks-make-the-matrix, marked-none, marked-cleared, marked-beyond-label, marked-beyond-partner, length-cleared, words-cleared}
 use Rattle.analysis.proofs.Shape.{Sized, sized-none, sized-joined, sized-crossed}
 use Rattle.analysis.proofs.Meanings.{by-range, merged-marks, crossed-marks}
 
@@ -47,6 +52,16 @@ module _ (w : ℕ) where
       ∙ max-assoc (marked w m i j) (marked w x i j) (marked w y i j)
       ∙ sym (merged-marks w sm (sized-joined sx sy) i j ∙ ap (λ (k : ℕ). max (marked w m i j) k) (merged-marks w sx sy i j)))
 
+  -- the same pairs besides
+  pub self-into : (m : List ℕ) → merged w m m ≡ m
+  unfolding joined
+  self-into m =
+      ext-getD 0 (merged w m m) m (length-joined (matrixWords w) m m)
+      (λ k h. let l : k < length m = subst (λ (n : ℕ). k < n) (length-joined (matrixWords w) m m) h in
+      by-range k (matrixWords w)
+      (λ inside. changed-below (matrixWords w) (λ j x. bitOr x (getD m j 0)) m k inside l ∙ or-self (getD m k 0))
+      (changed-beyond (matrixWords w) (λ j x. bitOr x (getD m j 0)) m k))
+
   -- no pairs besides
   pub none-into : {m : List ℕ} → Sized (matrixWords w) m → merged w m (none (matrixWords w)) ≡ m
   none-into {m} sm =
@@ -66,7 +81,7 @@ module _ (w : ℕ) where
     where
       unmarked : {m : List ℕ} → Sized (matrixWords w) m → (i j : ℕ) → marked w (cleared w m) i j ≡ 0
       unmarked {m} sm i j =
-          by-range j (ceiling w)
-          (λ l. by-range i (ceiling w) (λ h. marked-cleared w m (le-of-eq (sym (sm .size))) i j h l)
+          by-range j (labelCeiling w)
+          (λ l. by-range i (labelCeiling w) (λ h. marked-cleared w m (le-of-eq (sym (sm .size))) i j h l)
           (λ h. marked-beyond-label w (cleared w m) i j (le-of-eq (length-cleared w m ∙ sm .size)) h))
           (λ l. marked-beyond-partner w (cleared w m) i j l)

@@ -6,6 +6,7 @@ pub mod Into
 pub mod LabelsInRange
 pub mod RowCases
 pub mod States
+pub mod TurnLaws
 pub mod SameLaws
 pub mod GoingLaws
 pub mod ReplyLaws

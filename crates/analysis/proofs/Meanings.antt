@@ -9,18 +9,19 @@ use native.Mathlib.Nat.{zero-max, le-of-eq, zero-min, min-zero}
 use native.Mathlib.Omega.{arith}
 use borrow.Author.Tests.{eq-eqb, ne-eqb}
 use lib.Dec.{eqb}
-use Rattle.labels.specs.Words.{oneIf}
-use Rattle.labels.specs.Sets.{ceiling, member, union}
-use Rattle.labels.specs.Matrix.{matrixWords, marked, merged, crossed}
+use Rattle.numbers.specs.General.{oneIf}
+use Rattle.numbers.specs.Sizes.{labelCeiling, matrixWords}
+use Rattle.labels.specs.Sets.{member, union}
 use Rattle.labels.proofs.SetLaws.{member-lt, member-none, member-union, member-single, member-beyond}
-use Rattle.labels.proofs.MatrixLaws.{marked-lt, marked-none, marked-merged, marked-crossed, marked-beyond-label, marked-beyond-partner}
+use Rattle.matrix.specs.Matrix.{marked, merged, crossed}
+use Rattle.matrix.proofs.MatrixLaws.{marked-lt, marked-none, marked-merged, marked-crossed, marked-beyond-label, marked-beyond-partner}
 use Rattle.calculus.specs.Syntax.{Stmt, skip, step, seq, loop, async, finish, call}
-use Rattle.calculus.specs.Rules as rules
 use Rattle.calculus.specs.Rules.{Summary, summaryOf, Inside}
 use Rattle.calculus.proofs.Inside.{inside-refl, inside-trans, joined-inside, looped-inside, spawned-inside, waited-inside}
 use Rattle.analysis.specs.Summaries.{WordSummary, emptyWords, stepWords, joinedWords, loopedWords, waitedWords, wordsOf}
 use Rattle.analysis.specs.Meaning.{meaning}
 use Rattle.analysis.proofs.Shape.{Sized, Shaped, shaped, sized-joined, sized-crossed}
+use Rattle.calculus.specs.Rules as rules
 
 -- ---- bits as truths
 
@@ -58,23 +59,23 @@ by-range {x} {y} l c inside beyond = go (decLt l c)
     go (no h) = beyond (omega arith)
 
 module _ (w : ℕ) where
-  member-outside : {s : List ℕ} → Sized w s → (l : ℕ) → ceiling w ≤ l → member s l ≡ 0
+  member-outside : {s : List ℕ} → Sized w s → (l : ℕ) → labelCeiling w ≤ l → member s l ≡ 0
   member-outside {s} z l h = member-beyond s l (omega (arith, z .size))
 
-  label-outside : {m : List ℕ} → Sized (matrixWords w) m → (i j : ℕ) → ceiling w ≤ i → marked w m i j ≡ 0
+  label-outside : {m : List ℕ} → Sized (matrixWords w) m → (i j : ℕ) → labelCeiling w ≤ i → marked w m i j ≡ 0
   label-outside {m} z i j h = marked-beyond-label w m i j (le-of-eq (z .size)) h
 
   pub union-members : {a b : List ℕ} → Sized w a → Sized w b → (l : ℕ) → member (union w a b) l ≡ max (member a l) (member b l)
   union-members {a} {b} x y l =
-      by-range l (ceiling w) (member-union w a b l (x .size))
+      by-range l (labelCeiling w) (member-union w a b l (x .size))
       (λ h. member-outside (sized-joined x y) l h ∙ sym (ap₂ max (member-outside x l h) (member-outside y l h)))
 
   pub merged-marks :
       {m n : List ℕ} → Sized (matrixWords w) m → Sized (matrixWords w) n → (i j : ℕ)
       → marked w (merged w m n) i j ≡ max (marked w m i j) (marked w n i j)
   merged-marks {m} {n} x y i j =
-      by-range j (ceiling w)
-      (λ l. by-range i (ceiling w) (λ h. marked-merged w m (le-of-eq (sym (x .size))) n i j h l)
+      by-range j (labelCeiling w)
+      (λ l. by-range i (labelCeiling w) (λ h. marked-merged w m (le-of-eq (sym (x .size))) n i j h l)
       (λ h. label-outside (sized-joined x y) i j h ∙ sym (ap₂ max (label-outside x i j h) (label-outside y i j h))))
       (λ l. let beyond : (s : List ℕ) → marked w s i j ≡ 0 = λ s. marked-beyond-partner w s i j l in beyond (merged w m n) ∙ sym (ap₂ max (beyond m) (beyond n)))
 
@@ -82,8 +83,8 @@ module _ (w : ℕ) where
       {a b m : List ℕ} → Sized w a → Sized w b → Sized (matrixWords w) m → (i j : ℕ)
       → marked w (crossed w a b m) i j ≡ max (marked w m i j) (max (min (member a i) (member b j)) (min (member b i) (member a j)))
   crossed-marks {a} {b} {m} x y z i j =
-      by-range j (ceiling w)
-      (λ l. by-range i (ceiling w) (λ h. marked-crossed w m (le-of-eq (sym (z .size))) a b i j h l)
+      by-range j (labelCeiling w)
+      (λ l. by-range i (labelCeiling w) (λ h. marked-crossed w m (le-of-eq (sym (z .size))) a b i j h l)
       (λ h. label-outside (sized-crossed x y z) i j h
       ∙ none-added (label-outside z i j h)
       (ap (λ (k : ℕ). min k (member b j)) (member-outside x i h) ∙ zero-min (member b j))
@@ -144,7 +145,7 @@ module _ (w : ℕ) where
         back = record { M = λ i j e. absurd e; O = λ l e. absurd e; L = λ l e. absurd e };
       }
 
-  step-means : (k : ℕ) → k < ceiling w → Same (meaning w (stepWords w k)) (rules.stepped k)
+  step-means : (k : ℕ) → k < labelCeiling w → Same (meaning w (stepWords w k)) (rules.stepped k)
   step-means k h =
       record {
         into =
@@ -227,7 +228,7 @@ LabelsBelow c (call f) = Unit {0}
 
 -- the words of a statement mean its sets, where those of the procedures mean theirs
 pub words-mean-sets :
-    (w : ℕ) (B : ℕ → WordSummary) → ((f : ℕ) → Shaped w (B f)) → (s : Stmt) → LabelsBelow (ceiling w) s
+    (w : ℕ) (B : ℕ → WordSummary) → ((f : ℕ) → Shaped w (B f)) → (s : Stmt) → LabelsBelow (labelCeiling w) s
     → Same (meaning w (wordsOf w B s)) (summaryOf (λ f. meaning w (B f)) s)
 words-mean-sets w B b skip h = empty-means w
 words-mean-sets w B b (step l) h = step-means w l h

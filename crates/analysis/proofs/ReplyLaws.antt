@@ -4,8 +4,10 @@ use mathlib.Core.Path.{_≡_, sym, ap, _∙_}
 use mathlib.Core.List.{List}
 use Prim.Native.Nat.{ℕ}
 use lib.ListN.{length}
-use Rattle.analysis.specs.Shim.{Size, laid, judgedWith}
+use Rattle.numbers.specs.Sizes.{Size}
+use Rattle.numbers.specs.General.{laid}
 use Rattle.numbers.specs.declared.Refusal.{Refusal}
+use Rattle.recipe.specs.Rules.{judgedWith}
 use Rattle.recipe.specs.Statements.{programOf}
 use Rattle.recipe.specs.Tables.{Table}
 use Rattle.recipe.specs.declared.Judged.the-variants.{Admitted, Refused}

@@ -1,60 +1,49 @@
 -- Two states are compared word by word, which compares them block by block: the words of a block are those of M, O and L.
 -- Assumes nothing.
-use mathlib.Core.Path.{_≡_, refl, sym, ap, ap₂, _∙_, subst}
-use mathlib.Core.Bool.{Bool, true, false, _&&_, and-eq-true-iff, false≢true}
+use mathlib.Core.Path.{_≡_, refl, sym, ap, ap₂, _∙_}
+use mathlib.Core.Bool.{Bool, _&&_, and-true, and-assoc}
 use mathlib.Core.List.{List}
-use Prim.Native.Nat.{ℕ, zero, suc, _+_, _-_, _*_, _≤_, _<_}
-use native.Mathlib.Nat.{suc-mul, zero-mul}
-use native.Mathlib.Decide.{decLt}
+use Prim.Native.Nat.{ℕ, zero, suc, _+_, _*_, _<_}
+use native.Mathlib.Nat.{add-zero, add-suc, suc-mul, zero-mul}
 use native.Mathlib.Omega.{arith}
+use lib.Dec.{eqb}
 use lib.ListN.{getD, take, drop}
-use lib.Seq.{getD-take, getD-drop, drop-drop}
+use lib.Seq.{getD-take, getD-drop}
+use Rattle.numbers.specs.Sizes.{matrixWords}
+use Rattle.numbers.specs.General.{every}
 use Rattle.labels.specs.Words.{alike}
-use Rattle.labels.specs.Matrix.{matrixWords}
-use Rattle.labels.proofs.AlikeLaws.{alike-none, same-words-alike, alike-same-words}
-use Rattle.analysis.specs.Rounds.{every, sameWords}
+use Rattle.labels.proofs.AlikeLaws.{alike-none}
+use Rattle.analysis.specs.Rounds.{sameWords}
 use Rattle.analysis.specs.Inner.{blockWords, summaryIn, heldFor}
 
--- tests that pass together are equal
-pass-together : (a b : Bool) → (a ≡ true → b ≡ true) → (b ≡ true → a ≡ true) → a ≡ b
-pass-together true b there back = sym (there refl)
-pass-together false true there back = back refl
-pass-together false false there back = refl
+-- tests that reply alike below n
+pub every-alike : (n : ℕ) (p q : ℕ → Bool) → ((k : ℕ) → k < n → p k ≡ q k) → every n p ≡ every n q
+unfolding every
+every-alike zero p q e = refl
+every-alike (suc n) p q e = ap₂ _&&_ (every-alike n p q (λ k h. e k (omega arith))) (e n (omega arith))
 
--- the first a words, then the next b
+-- the first a numbers, then the next b
+every-split : (test : ℕ → Bool) (a b : ℕ) → every (a + b) test ≡ (every a test && every b (λ k. test (a + k)))
+unfolding every
+every-split test a zero = ap (λ (n : ℕ). every n test) (add-zero a) ∙ sym (and-true (every a test))
+every-split test a (suc b) =
+    ap (λ (n : ℕ). every n test) (add-suc a b)
+    ∙ ap (λ (c : Bool). c && test (a + b)) (every-split test a b)
+    ∙ and-assoc (every a test) (every b (λ k. test (a + k))) (test (a + b))
+
 alike-split : (a b : ℕ) (s t : List ℕ) → alike (a + b) s t ≡ (alike a s t && alike b (drop a s) (drop a t))
-alike-split a b s t = pass-together (alike (a + b) s t) (alike a s t && alike b (drop a s) (drop a t)) there back
-  where
-    there : alike (a + b) s t ≡ true → (alike a s t && alike b (drop a s) (drop a t)) ≡ true
-    there e =
-        let same = alike-same-words (a + b) s t e in
-        and-eq-true-iff (alike a s t) (alike b (drop a s) (drop a t)) .1
-        (same-words-alike a s t (λ k h. same k (omega arith)),
-        same-words-alike b (drop a s) (drop a t) (λ k h. getD-drop a s k 0 ∙ same (a + k) (omega arith) ∙ sym (getD-drop a t k 0)))
-
-    back : (alike a s t && alike b (drop a s) (drop a t)) ≡ true → alike (a + b) s t ≡ true
-    back e = same-words-alike (a + b) s t (λ k h. word k h (decLt k a))
-      where
-        both : (alike a s t ≡ true) × (alike b (drop a s) (drop a t) ≡ true)
-        both = and-eq-true-iff (alike a s t) (alike b (drop a s) (drop a t)) .0 e
-
-        word : (k : ℕ) → k < a + b → Dec (k < a) → getD s k 0 ≡ getD t k 0
-        word k h (yes l) = alike-same-words a s t (both .0) k l
-        word k h (no l) =
-            let there : a + (k - a) ≡ k = omega arith in
-            subst (λ (n : ℕ). getD s n 0 ≡ getD t n 0) there
-            (sym (getD-drop a s (k - a) 0)
-            ∙ alike-same-words b (drop a s) (drop a t) (both .1) (k - a) (omega arith)
-            ∙ getD-drop a t (k - a) 0)
+unfolding alike
+alike-split a b s t =
+    every-split (λ k. eqb (getD s k 0) (getD t k 0)) a b
+    ∙ ap (λ (c : Bool). alike a s t && c)
+    (every-alike b _ (λ k. eqb (getD (drop a s) k 0) (getD (drop a t) k 0))
+    (λ k h. ap₂ eqb (sym (getD-drop a s k 0)) (sym (getD-drop a t k 0))))
 
 -- what lies beyond does not matter
 alike-taken : (n : ℕ) (s t : List ℕ) → alike n (take n s) (take n t) ≡ alike n s t
+unfolding alike
 alike-taken n s t =
-    pass-together (alike n (take n s) (take n t)) (alike n s t)
-    (λ e. same-words-alike n s t
-    (λ k h. sym (getD-take n s k 0 h) ∙ alike-same-words n (take n s) (take n t) e k h ∙ getD-take n t k 0 h))
-    (λ e. same-words-alike n (take n s) (take n t)
-    (λ k h. getD-take n s k 0 h ∙ alike-same-words n s t e k h ∙ sym (getD-take n t k 0 h)))
+    every-alike n _ (λ k. eqb (getD s k 0) (getD t k 0)) (λ k h. ap₂ eqb (getD-take n s k 0 h) (getD-take n t k 0 h))
 
 module _ (w : ℕ) where
   block-alike : (s t : List ℕ) → alike (blockWords w) s t ≡ sameWords w (summaryIn w s) (summaryIn w t)

@@ -5,11 +5,12 @@ use mathlib.Core.Logic.{inl, inr}
 use mathlib.Core.List.{List}
 use Prim.Native.Nat.{ℕ, zero, suc}
 use lib.ListN.{length, length-replicate}
+use Rattle.numbers.specs.Sizes.{matrixWords}
 use Rattle.labels.specs.Words.{Words}
 use Rattle.labels.specs.Sets.{none, single, joined}
-use Rattle.labels.specs.Matrix.{matrixWords, crossed}
 use Rattle.labels.proofs.SetLaws.{length-joined, words-joined, words-none, length-single, words-single}
-use Rattle.labels.proofs.MatrixLaws.{length-crossed, words-crossed}
+use Rattle.matrix.specs.Matrix.{crossed}
+use Rattle.matrix.proofs.MatrixLaws.{length-crossed, words-crossed}
 use Rattle.calculus.specs.Syntax.{Stmt, skip, step, seq, loop, async, finish, call, Program, body}
 use Rattle.calculus.specs.Calls.{CallsIn}
 use Rattle.analysis.specs.Summaries.{WordSummary, emptyWords, wordsOf}

@@ -6,12 +6,12 @@ use mathlib.Core.List.{List, [], _∷_, _++_, append-assoc, append-nil}
 use Prim.Native.Nat.{ℕ, zero, suc, _+_, _-_, _*_, _≤_, _<_}
 use native.Mathlib.Nat.{suc-mul, zero-mul, mul-le-mul-right, le-of-suc-le-suc, eq-or-lt-of-le, not-suc-le-zero, le-of-eq, add-assoc}
 use native.Mathlib.Omega.{arith}
-use lib.ListN.{length, take, drop, length-append, length-drop, replicate-append-replicate}
-use lib.Seq.{length-take-le, take-at, drop-at, drop-drop, drop-length, drop-append-le}
+use lib.ListN.{length, getD, take, drop, length-append, length-drop, replicate-append-replicate}
+use lib.Seq.{length-take-le, take-at, drop-at, drop-drop, drop-length, drop-append-le, drop-cons}
+use Rattle.numbers.specs.Sizes.{matrixWords, Size}
+use Rattle.numbers.specs.General.{inTurn, laid}
 use Rattle.labels.specs.Sets.{none}
-use Rattle.labels.specs.Matrix.{matrixWords}
 use Rattle.labels.proofs.ChangedLaws.{words-take, words-drop}
-use Rattle.analysis.specs.Shim.{Size, inTurn, laid}
 use Rattle.analysis.specs.Inner.{blockWords, stateWords, block, blocks, summaryIn, heldFor, storedAt}
 use Rattle.analysis.specs.Summaries.{WordSummary, emptyWords}
 use Rattle.analysis.proofs.Shape.{Sized, Shaped, by-parts}
@@ -20,9 +20,13 @@ blocks-next : (n : ℕ) (x : ℕ → WordSummary) → blocks (suc n) x ≡ block
 unfolding inTurn
 blocks-next n x = refl
 
-blocks-none : (x : ℕ → WordSummary) → blocks zero x ≡ []
+pub blocks-none : (x : ℕ → WordSummary) → blocks zero x ≡ []
 unfolding inTurn
 blocks-none x = refl
+
+-- a word of a part
+pub word-read : (s : List ℕ) (a b k : ℕ) → k ≡ a + b → k < length s → getD s k 0 ∷ [] ≡ take 1 (drop b (drop a s))
+word-read s a b k e h = sym (ap (take 1) (drop-drop b a s ∙ ap (λ (n : ℕ). drop n s) (sym e) ∙ drop-cons s k 0 h))
 
 -- ---- the empty state
 
@@ -53,7 +57,7 @@ module _ (w : ℕ) where
   block-read {x} rest s =
       let parts : block x ++ rest ≡ x .M ++ (x .O ++ (x .L ++ rest)) = simp append-assoc in
       let past-M : drop (matrixWords w) (block x ++ rest) ≡ x .O ++ (x .L ++ rest) =
-          ap (drop (matrixWords w)) parts ∙ drop-at (x .M) (x .O ++ (x .L ++ rest)) (matrixWords w) (s .M .size) in
+      ap (drop (matrixWords w)) parts ∙ drop-at (x .M) (x .O ++ (x .L ++ rest)) (matrixWords w) (s .M .size) in
       by-parts
       (ap (take (matrixWords w)) parts ∙ take-at (x .M) (x .O ++ (x .L ++ rest)) (matrixWords w) (s .M .size))
       (ap (take w) past-M ∙ take-at (x .O) (x .L ++ rest) w (s .O .size))

@@ -3,9 +3,11 @@ use mathlib.Core.Path.{_≡_}
 use mathlib.Core.List.{List, [], _∷_, _++_}
 use Prim.Native.Nat.{ℕ, _+_, _*_, _<_}
 use lib.ListN.{length, getD, take, drop}
-use Rattle.labels.specs.Matrix.{matrixWords, merged}
-use Rattle.analysis.specs.Shim.{Size, inTurn, laid, admitted, OfAdmitted}
-use Rattle.recipe.specs.Alone.{rowsAlone}
+use Rattle.numbers.specs.Sizes.{matrixWords, Size}
+use Rattle.numbers.specs.General.{inTurn, laid}
+use Rattle.matrix.specs.Matrix.{merged}
+use Rattle.recipe.specs.Rules.{admitted}
+use Rattle.recipe.specs.Inner.{OfAdmitted, rowsAlone}
 use Rattle.recipe.specs.Tables.{tableOf}
 use Rattle.recipe.specs.Statements.{statementAt}
 use Rattle.analysis.specs.Summaries.{WordSummary, wordsOf}

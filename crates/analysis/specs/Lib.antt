@@ -1,4 +1,3 @@
-pub mod Shim
 pub mod Summaries
 pub mod Meaning
 pub mod Rounds

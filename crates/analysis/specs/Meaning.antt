@@ -2,7 +2,7 @@
 use mathlib.Core.Path.{_≡_}
 use Prim.Native.Nat.{ℕ}
 use Rattle.labels.specs.Sets.{member}
-use Rattle.labels.specs.Matrix.{marked}
+use Rattle.matrix.specs.Matrix.{marked}
 use Rattle.calculus.specs.Rules.{Summary}
 use Rattle.analysis.specs.Summaries.{WordSummary}
 

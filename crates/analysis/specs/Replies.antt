@@ -2,9 +2,10 @@
 use mathlib.Core.List.{List}
 use Prim.Native.Nat.{ℕ, _*_}
 use lib.ListN.{length}
-use Rattle.analysis.specs.Shim.{Size, laid, judgedWith}
+use Rattle.numbers.specs.Sizes.{Size}
+use Rattle.numbers.specs.General.{laid, lowest}
 use Rattle.calculus.specs.Syntax.{Program}
-use Rattle.recipe.specs.Rules.{lowest}
+use Rattle.recipe.specs.Rules.{judgedWith}
 use Rattle.recipe.specs.Statements.{programOf}
 use Rattle.recipe.specs.Tables.{Table}
 use Rattle.recipe.specs.declared.Judged.{Judged}

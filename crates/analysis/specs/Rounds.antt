@@ -1,9 +1,10 @@
 -- The rounds: from empty summaries, every body is worked out again from the round before, until a round repeats.
-use mathlib.Core.Bool.{Bool, true, _&&_}
+use mathlib.Core.Bool.{Bool, _&&_}
 use Prim.Native.Nat.{ℕ, zero, suc}
 use lib.ListN.{length}
+use Rattle.numbers.specs.General.{every}
+use Rattle.numbers.specs.Sizes.{matrixWords}
 use Rattle.labels.specs.Words.{alike}
-use Rattle.labels.specs.Matrix.{matrixWords}
 use Rattle.calculus.specs.Syntax.{Program, body}
 use Rattle.analysis.specs.Summaries.{WordSummary, emptyWords, wordsOf}
 
@@ -11,11 +12,6 @@ use Rattle.analysis.specs.Summaries.{WordSummary, emptyWords, wordsOf}
 unfoldable pub after : ℕ → Program → ℕ → ℕ → WordSummary
 after w p zero f = emptyWords w
 after w p (suc k) f = wordsOf w (after w p k) (body p f)
-
--- Whether the test passes at each number below n.
-unfoldable pub every : ℕ → (ℕ → Bool) → Bool
-every zero test = true
-every (suc n) test = every n test && test n
 
 -- Whether two summaries are the same, word by word.
 abbrev pub sameWords : ℕ → WordSummary → WordSummary → Bool

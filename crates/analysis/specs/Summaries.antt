@@ -1,8 +1,9 @@
 -- The rules (10) to (16) on words: a statement's sets are w words each, its pairs a matrix. The code has w = 1.
 use mathlib.Core.List.{List}
 use Prim.Native.Nat.{ℕ}
+use Rattle.numbers.specs.Sizes.{matrixWords}
 use Rattle.labels.specs.Sets.{none, single, union}
-use Rattle.labels.specs.Matrix.{matrixWords, merged, crossed}
+use Rattle.matrix.specs.Matrix.{merged, crossed}
 use Rattle.calculus.specs.Syntax.{Stmt, skip, step, seq, loop, async, finish, call}
 
 -- The pairs that may run together, the labels that may still run when the statement has completed, and the labels that run.

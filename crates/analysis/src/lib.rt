@@ -1,7 +1,7 @@
 // The analysis: which labels may run at the same time, worked out in rounds from an admitted recipe.
 ghost use mathlib.Core.Path.{_≡_};
 ghost use lib.ListN.{length};
-ghost use Rattle.analysis.specs.Shim.{ours};
+ghost use Rattle.numbers.specs.Sizes.{ours};
 ghost use Rattle.recipe.specs.Tables.{tableOf};
 ghost use Rattle.analysis.specs.Replies.{analysed, matrixAfter};
 
@@ -22,14 +22,10 @@ pub enum Analysed {
 // Marks in the lent matrix every two labels that may run at the same time in main, and hands back the rounds. A recipe that is
 // not admitted is refused, and then the matrix is left as it was.
 pub fn analyse(kinds: &[u8], xs: &[u16], ys: &[u16], roots: &[u16], matrix: &mut [u64]) -> Analysed
-    ensures reply {
-      λ r. let t = tableOf (now (kinds .entry)) (now (xs .entry)) (now (ys .entry)) (now (roots .entry)) in
-        ⌜ r ≡ analysed ours t (length (now (matrix .entry))) ⌝
-    }
-    ensures pairs {
-      λ _. let t = tableOf (now (kinds .entry)) (now (xs .entry)) (now (ys .entry)) (now (roots .entry)) in
-        ⌜ now (matrix .exit) ≡ matrixAfter ours t (now (matrix .entry)) ⌝
-    }
+    ensures reply { λ r. let t = tableOf (now (kinds .entry)) (now (xs .entry)) (now (ys .entry)) (now (roots .entry)) in
+        ⌜ r ≡ analysed ours t (length (now (matrix .entry))) ⌝ }
+    ensures pairs { λ _. let t = tableOf (now (kinds .entry)) (now (xs .entry)) (now (ys .entry)) (now (roots .entry)) in
+        ⌜ now (matrix .exit) ≡ matrixAfter ours t (now (matrix .entry)) ⌝ }
 {
     match recipe::judge_with(kinds, xs, ys, roots, matrix.len()) {
         Judged::Refused(r) => Analysed::Refused(r),

@@ -2,8 +2,9 @@
 ghost use mathlib.Core.Path.{_≡_};
 ghost use Prim.Native.Nat.{_<_, _≤_};
 ghost use lib.ListN.{length};
-ghost use Rattle.labels.specs.Matrix.{matrixWords};
-ghost use Rattle.analysis.specs.Shim.{ours, laid, admitted};
+ghost use Rattle.numbers.specs.Sizes.{matrixWords, ours};
+ghost use Rattle.numbers.specs.General.{laid};
+ghost use Rattle.recipe.specs.Rules.{admitted};
 ghost use Rattle.recipe.specs.Tables.{tableOf};
 ghost use Rattle.recipe.specs.Statements.{programOf};
 ghost use Rattle.analysis.specs.Replies.{rounds, mainPairs};
@@ -11,8 +12,8 @@ ghost use Rattle.analysis.specs.Inner.{summaryWords, blocks, rowWords, b
 use crate::rows::row_summary;
 use crate::state;
 use crate::state::BLOCK_WORDS;
-use crate::state::MATRIX_WORDS;
 use crate::summary::LabelSummary;
+use numbers::MATRIX_WORDS;
 use numbers::ProcNumber;
 use numbers::RowNumber;
 
@@ -26,10 +27,8 @@ fn body_summary(
     root: RowNumber,
 ) -> LabelSummary
     requires { ⌜ Ready ours (now pairs) (now kinds) (now xs) (now ys) (now held) (root .0) ⌝ }
-    ensures {
-      λ r. let x = rowWords (ours .words) (now (kinds .entry)) (now (xs .entry)) (now (ys .entry)) (now (held .entry)) (root .0) in
-        ⌜ summaryWords r (now (pairs .exit)) ≡ x ⌝
-    }
+    ensures { λ r. let x = rowWords (ours .words) (now (kinds .entry)) (now (xs .entry)) (now (ys .entry)) (now (held .entry)) (root .0) in
+        ⌜ summaryWords r (now (pairs .exit)) ≡ x ⌝ }
 {
     matrix::clear(pairs);
     row_summary(pairs, kinds, xs, ys, held, root)
@@ -47,10 +46,8 @@ fn one_body(
 )
     requires { ⌜ Turn ours (now new) (now kinds) (now xs) (now ys) (now roots) (now held) ⌝ }
     requires { ⌜ f .0 < length (now roots) ⌝ }
-    ensures {
-      λ _. let x = bodyWords (ours .words) (now (kinds .entry)) (now (xs .entry)) (now (ys .entry)) (now (roots .entry)) (now (held .entry)) in
-        ⌜ now (new .exit) ≡ storedAt (ours .words) (now (new .entry)) (f .0) (x (f .0)) ⌝
-    }
+    ensures { λ _. let x = bodyWords (ours .words) (now (kinds .entry)) (now (xs .entry)) (now (ys .entry)) (now (roots .entry)) (now (held .entry)) in
+        ⌜ now (new .exit) ≡ storedAt (ours .words) (now (new .entry)) (f .0) (x (f .0)) ⌝ }
 {
     let at = f.0 as usize;
     let root = RowNumber(roots[at]);
@@ -62,19 +59,10 @@ fn one_body(
 }
 
 // A round: every body, called or not.
-fn round(
-    new: &mut [u64],
-    kinds: &[u8],
-    xs: &[u16],
-    ys: &[u16],
-    roots: &[u16],
-    held: &[u64],
-)
+fn round(new: &mut [u64], kinds: &[u8], xs: &[u16], ys: &[u16], roots: &[u16], held: &[u64])
     requires { ⌜ Turn ours (now new) (now kinds) (now xs) (now ys) (now roots) (now held) ⌝ }
-    ensures {
-      λ _. let x = bodyWords (ours .words) (now (kinds .entry)) (now (xs .entry)) (now (ys .entry)) (now (roots .entry)) (now (held .entry)) in
-        ⌜ now (new .exit) ≡ laid (blocks (length (now (roots .entry))) x) (now (new .entry)) ⌝
-    }
+    ensures { λ _. let x = bodyWords (ours .words) (now (kinds .entry)) (now (xs .entry)) (now (ys .entry)) (now (roots .entry)) (now (held .entry)) in
+        ⌜ now (new .exit) ≡ laid (blocks (length (now (roots .entry))) x) (now (new .entry)) ⌝ }
 {
     let mut f = 0;
     while f < roots.len() {
@@ -87,14 +75,10 @@ fn round(
 pub(crate) fn run(matrix: &mut [u64], kinds: &[u8], xs: &[u16], ys: &[u16], roots: &[u16]) -> u32
     requires { ⌜ admitted ours (tableOf (now kinds) (now xs) (now ys) (now roots)) ⌝ }
     requires { ⌜ matrixWords (ours .words) ≤ length (now matrix) ⌝ }
-    ensures count {
-      λ r. let t = tableOf (now (kinds .entry)) (now (xs .entry)) (now (ys .entry)) (now (roots .entry)) in
-        ⌜ r ≡ rounds (ours .words) (programOf t) ⌝
-    }
-    ensures pairs {
-      λ _. let t = tableOf (now (kinds .entry)) (now (xs .entry)) (now (ys .entry)) (now (roots .entry)) in
-        ⌜ now (matrix .exit) ≡ laid (mainPairs (ours .words) (programOf t)) (now (matrix .entry)) ⌝
-    }
+    ensures count { λ r. let t = tableOf (now (kinds .entry)) (now (xs .entry)) (now (ys .entry)) (now (roots .entry)) in
+        ⌜ r ≡ rounds (ours .words) (programOf t) ⌝ }
+    ensures pairs { λ _. let t = tableOf (now (kinds .entry)) (now (xs .entry)) (now (ys .entry)) (now (roots .entry)) in
+        ⌜ now (matrix .exit) ≡ laid (mainPairs (ours .words) (programOf t)) (now (matrix .entry)) ⌝ }
 {
     let mut held = state::empty();
     let mut new = state::empty();
@@ -107,7 +91,6 @@ pub(crate) fn run(matrix: &mut [u64], kinds: &[u8], xs: &[u16], ys: &[u16], root
         held = new;
         k += 1;
     }
-    matrix::clear(matrix);
-    matrix::merge(matrix, &held[..MATRIX_WORDS]);
+    matrix::copy(matrix, &held[..MATRIX_WORDS]);
     k
 }

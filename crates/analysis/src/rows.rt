@@ -2,22 +2,20 @@
 ghost use mathlib.Core.Path.{_≡_};
 ghost use Prim.Native.Nat.{_<_};
 ghost use lib.ListN.{length};
-ghost use Rattle.analysis.specs.Shim.{ours};
+ghost use Rattle.numbers.specs.Sizes.{ours};
 ghost use Rattle.analysis.specs.Summaries.{joinedWords, loopedWords};
 ghost use Rattle.analysis.specs.Inner.{summaryWords, markedInto, stateWords, heldFor, rowWords, Ready};
 use crate::state::BLOCK_WORDS;
-use crate::state::MATRIX_WORDS;
 use crate::summary::LabelSummary;
 use labels::Label;
+use numbers::MATRIX_WORDS;
 use numbers::ProcNumber;
 use numbers::RowNumber;
 
 // Two statements one after the other, where the pairs of both are marked: what the first leaves running meets what the second runs.
 fn sequence(pairs: &mut [u64], first: LabelSummary, second: LabelSummary) -> LabelSummary
-    ensures {
-      λ r. let m = now (pairs .entry) in
-        ⌜ summaryWords r (now (pairs .exit)) ≡ joinedWords (ours .words) (summaryWords first m) (summaryWords second m) ⌝
-    }
+    ensures { λ r. let m = now (pairs .entry) in
+        ⌜ summaryWords r (now (pairs .exit)) ≡ joinedWords (ours .words) (summaryWords first m) (summaryWords second m) ⌝ }
 {
     matrix::cross(pairs, first.o, second.l);
     first.joined_with(second)
@@ -35,10 +33,8 @@ fn repetition(pairs: &mut [u64], body: LabelSummary) -> LabelSummary
 fn called(pairs: &mut [u64], held: &[u64], callee: ProcNumber) -> LabelSummary
     requires { ⌜ callee .0 < ours .procs ⌝ }
     requires { ⌜ length (now held) ≡ stateWords ours ⌝ }
-    ensures {
-      λ r. let x = heldFor (ours .words) (now (held .entry)) (callee .0) in
-        ⌜ summaryWords r (now (pairs .exit)) ≡ markedInto (ours .words) (now (pairs .entry)) x ⌝
-    }
+    ensures { λ r. let x = heldFor (ours .words) (now (held .entry)) (callee .0) in
+        ⌜ summaryWords r (now (pairs .exit)) ≡ markedInto (ours .words) (now (pairs .entry)) x ⌝ }
 {
     let start = callee.0 as usize * BLOCK_WORDS;
     let end = start + MATRIX_WORDS;
@@ -59,10 +55,8 @@ pub(crate) fn row_summary(
     row: RowNumber,
 ) -> LabelSummary
     requires { ⌜ Ready ours (now pairs) (now kinds) (now xs) (now ys) (now held) (row .0) ⌝ }
-    ensures {
-      λ r. let x = rowWords (ours .words) (now (kinds .entry)) (now (xs .entry)) (now (ys .entry)) (now (held .entry)) (row .0) in
-        ⌜ summaryWords r (now (pairs .exit)) ≡ markedInto (ours .words) (now (pairs .entry)) x ⌝
-    }
+    ensures { λ r. let x = rowWords (ours .words) (now (kinds .entry)) (now (xs .entry)) (now (ys .entry)) (now (held .entry)) (row .0) in
+        ⌜ summaryWords r (now (pairs .exit)) ≡ markedInto (ours .words) (now (pairs .entry)) x ⌝ }
 {
     let i = row.0 as usize;
     let kind = kinds[i];

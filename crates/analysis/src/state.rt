@@ -2,15 +2,12 @@
 ghost use mathlib.Core.Path.{_≡_};
 ghost use Prim.Native.Nat.{_≤_, _*_};
 ghost use lib.ListN.{length};
+ghost use Rattle.numbers.specs.Sizes.{ours};
 ghost use Rattle.labels.specs.Words.{alike};
-ghost use Rattle.analysis.specs.Shim.{ours};
 ghost use Rattle.analysis.specs.Summaries.{emptyWords};
 ghost use Rattle.analysis.specs.Inner.{blockWords, stateWords, blocks};
-use labels::Label;
+use numbers::MATRIX_WORDS;
 use numbers::ProcNumber;
-
-// The words of a matrix.
-pub(crate) const MATRIX_WORDS: usize = 64;
 
 // The words of a procedure's block.
 pub(crate) const BLOCK_WORDS: usize = MATRIX_WORDS + 2;

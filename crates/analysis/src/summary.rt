@@ -1,7 +1,7 @@
 // The labels that may still run when a statement has completed, and the labels that run in it.
 ghost use mathlib.Core.Path.{_≡_};
 ghost use mathlib.Core.List.{_∷_, []};
-ghost use Rattle.analysis.specs.Shim.{ours};
+ghost use Rattle.numbers.specs.Sizes.{ours};
 ghost use Rattle.labels.specs.Sets.{none, single, union};
 use labels::Label;
 

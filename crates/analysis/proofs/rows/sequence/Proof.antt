@@ -1,0 +1,32 @@
+-- `sequence` meets its contract: the crossing marks, the join hands back the labels, and the pairs of both are those marked before.
+-- Assumes nothing.
+use mathlib.Core.Path.{sym, ap, _∙_}
+use mathlib.Core.List.{[], _∷_}
+use denote.Ref.{now}
+use borrow.Author.Needs.{needs}
+use Rattle.numbers.specs.Sizes.{ours}
+use Rattle.matrix.specs.Matrix.{crossed}
+use Rattle.analysis.proofs.Into.{self-into}
+use Rattle.analysis.proofs.Shape.{by-parts}
+use Rattle.analysis.proofs.rows.sequence.Statement.{statement}
+use Rattle.analysis.proofs.rows.sequence.Tie as tie
+
+cross-requires : tie.Need-cross-requires
+cross-requires c κs = search needs
+
+joined-with-requires : tie.Need-joined-with-requires
+joined-with-requires c κs = search needs
+
+same-length : tie.Need-same-length
+same-length c = search needs
+
+returns : tie.Need-returns
+returns c =
+    let a = c .before .before .before .before .before .before .args in
+    by-parts
+    (c .before .before .before .cross .ensures
+    ∙ ap (crossed (ours .words) (a .first .o ∷ []) (a .second .l ∷ [])) (sym (self-into (ours .words) (now (a .pairs)))))
+    (c .joined-with .ensures .0) (c .joined-with .ensures .1)
+
+pub sequence-spec : {M : Type 1} → statement M
+sequence-spec = tie.close (tie.spec cross-requires joined-with-requires same-length returns)

@@ -1,0 +1,78 @@
+-- `state::same` meets its contract: from the highest word down, the states are alike as long as no word differs.
+-- Assumes nothing.
+use mathlib.Core.Path.{_≡_, refl, sym, ap, _∙_}
+use Prim.Native.Nat.{ℕ, _*_, _≤_}
+use denote.Ref.{now}
+use borrow.Author.Needs.{needs}
+use native.Mathlib.Omega.{arith}
+use Rattle.numbers.specs.Sizes.{ours}
+use Rattle.labels.specs.Words.{alike}
+use Rattle.labels.proofs.AlikeLaws.{alike-down, differs-down, alike-none}
+use Rattle.analysis.specs.Inner.{blockWords, stateWords}
+use Rattle.analysis.proofs.state.same.Statement.{statement}
+use Rattle.analysis.proofs.state.same.Tie as tie
+
+abbrev Inv-loop : tie.InvT-loop
+Inv-loop new held procs i₀ i = (i ≤ stateWords ours) × (alike (procs * blockWords (ours .words)) new held ≡ alike i new held)
+
+abbrev μ-loop : tie.MeasureT-loop
+μ-loop new held procs i₀ i = i
+
+mul-i : tie.Need-mul-i Inv-loop μ-loop
+mul-i c = omega arith
+
+loop-holds : tie.Need-loop-holds Inv-loop μ-loop
+loop-holds c = (omega arith, refl)
+
+sub-i : tie.Need-sub-i Inv-loop μ-loop
+sub-i c = omega arith
+
+mul-if1 : tie.Need-mul-if1 Inv-loop μ-loop
+mul-if1 c = omega arith
+
+shared-slice-read-if1 : tie.Need-shared-slice-read-if1 Inv-loop μ-loop
+shared-slice-read-if1 c = omega arith
+
+mul-if1-2 : tie.Need-mul-if1-2 Inv-loop μ-loop
+mul-if1-2 c = omega arith
+
+shared-slice-read-if1-2 : tie.Need-shared-slice-read-if1-2 Inv-loop μ-loop
+shared-slice-read-if1-2 c = omega arith
+
+returns : tie.Need-returns Inv-loop μ-loop
+returns c =
+    let l = c .before .before .before .before .loop in
+    sym (l .inv .1 ∙ differs-down _ _ (l .i) (c .before .before .before .loop-test .taken) (c .if1 .taken))
+
+loop-less : tie.Need-loop-less Inv-loop μ-loop
+loop-less c = omega arith
+
+loop-again : tie.Need-loop-again Inv-loop μ-loop
+loop-again c =
+    let l = c .before .before .before .before .loop in
+    (omega arith, l .inv .1 ∙ alike-down _ _ (l .i) (c .before .before .before .loop-test .taken) (c .if1 .left))
+
+returns-2 : tie.Need-returns-2 Inv-loop μ-loop
+returns-2 c =
+    let l = c .before .loop in
+    let a = c .before .before .args in
+    let done : l .i ≡ 0 = omega arith in
+    sym (l .inv .1 ∙ ap (λ (k : ℕ). alike k (now (a .new)) (now (a .held))) done ∙ alike-none (now (a .new)) (now (a .held)))
+
+pub same-spec : {M : Type 1} → statement M
+same-spec =
+    tie.close
+    (tie.spec
+    Inv-loop
+    μ-loop
+    mul-i
+    loop-holds
+    sub-i
+    mul-if1
+    shared-slice-read-if1
+    mul-if1-2
+    shared-slice-read-if1-2
+    returns
+    loop-less
+    loop-again
+    returns-2)
