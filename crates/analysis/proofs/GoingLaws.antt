@@ -22,7 +22,7 @@ use Rattle.recipe.specs.Statements.{programOf}
 use Rattle.recipe.proofs.Admitted.{sizes-right, root-row}
 use Rattle.recipe.proofs.AloneLaws.{same-statement, calls-in-range}
 use Rattle.recipe.proofs.Readings.{program-length, body-of-root}
-use Rattle.analysis.specs.Summaries.{WordSummary, emptyWords, joinedWords, loopedWords, spawnedWords, waitedWords, wordsOf}
+use Rattle.analysis.specs.Summaries.{WordSummary, emptyWords, followedWords, loopedWords, spawnedWords, waitedWords, wordsOf}
 use Rattle.analysis.specs.Rounds.{after, sameWords, settled}
 use Rattle.analysis.specs.Replies.{rounds, mainPairs}
 use Rattle.analysis.specs.Inner.{Turn, blockWords, stateWords, blocks, heldFor, bodyWords}
@@ -36,7 +36,7 @@ words-alike : (w : ℕ) (B C : ℕ → WordSummary) (s : Stmt) → ((f : ℕ) �
 words-alike w B C skip e = refl
 words-alike w B C (step l) e = refl
 words-alike w B C (seq s t) e =
-    ap₂ (joinedWords w) (words-alike w B C s (λ f c. e f (inl c))) (words-alike w B C t (λ f c. e f (inr c)))
+    ap₂ (followedWords w) (words-alike w B C s (λ f c. e f (inl c))) (words-alike w B C t (λ f c. e f (inr c)))
 words-alike w B C (loop s) e = ap (loopedWords w) (words-alike w B C s e)
 words-alike w B C (async s) e = ap spawnedWords (words-alike w B C s e)
 words-alike w B C (finish s) e = ap (waitedWords w) (words-alike w B C s e)

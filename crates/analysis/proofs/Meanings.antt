@@ -18,7 +18,7 @@ use Rattle.matrix.proofs.MatrixLaws.{marked-lt, marked-none, marked-merged, mar
 use Rattle.calculus.specs.Syntax.{Stmt, skip, step, seq, loop, async, finish, call}
 use Rattle.calculus.specs.Rules.{Summary, summaryOf, Inside}
 use Rattle.calculus.proofs.Inside.{inside-refl, inside-trans, joined-inside, looped-inside, spawned-inside, waited-inside}
-use Rattle.analysis.specs.Summaries.{WordSummary, emptyWords, stepWords, joinedWords, loopedWords, waitedWords, wordsOf}
+use Rattle.analysis.specs.Summaries.{WordSummary, emptyWords, stepWords, followedWords, loopedWords, waitedWords, wordsOf}
 use Rattle.analysis.specs.Meaning.{meaning}
 use Rattle.analysis.proofs.Shape.{Sized, Shaped, shaped, sized-joined, sized-crossed}
 use Rattle.calculus.specs.Rules as rules
@@ -113,7 +113,7 @@ same-trans p q = record { into = inside-trans (p .into) (q .into); back = inside
 module _ (w : ℕ) where
   crossing-means :
       {a b m : List ℕ} → Sized w a → Sized w b → Sized (matrixWords w) m → (i j : ℕ)
-      → marked w (crossed w a b m) i j ≡ 1 → (marked w m i j ≡ 1) ⊎ rules.crossed (λ l. member a l ≡ 1) (λ l. member b l ≡ 1) i j
+      → marked w (crossed w a b m) i j ≡ 1 → (marked w m i j ≡ 1) ⊎ rules.symcross (λ l. member a l ≡ 1) (λ l. member b l ≡ 1) i j
   crossing-means {a} {b} {m} x y z i j e =
       ⊎-map (λ p. p)
       (λ q. ⊎-map (min-one (member a i) (member b j) (member-lt a i) (member-lt b j)) (min-one (member b i) (member a j) (member-lt b i) (member-lt a j))
@@ -122,7 +122,7 @@ module _ (w : ℕ) where
 
   means-crossing :
       {a b m : List ℕ} → Sized w a → Sized w b → Sized (matrixWords w) m → (i j : ℕ)
-      → (marked w m i j ≡ 1) ⊎ rules.crossed (λ l. member a l ≡ 1) (λ l. member b l ≡ 1) i j → marked w (crossed w a b m) i j ≡ 1
+      → (marked w m i j ≡ 1) ⊎ rules.symcross (λ l. member a l ≡ 1) (λ l. member b l ≡ 1) i j → marked w (crossed w a b m) i j ≡ 1
   means-crossing {a} {b} {m} x y z i j e =
       let p = min-below (member a i) (member b j) (member-lt a i) in
       let q = min-below (member b i) (member a j) (member-lt b i) in
@@ -167,7 +167,7 @@ module _ (w : ℕ) where
       is-label {l} e (no p) = absurd (not-one (ap oneIf (ne-eqb k l p)) e)
 
   join-means :
-      {x y : WordSummary} → Shaped w x → Shaped w y → Same (meaning w (joinedWords w x y)) (rules.joined (meaning w x) (meaning w y))
+      {x y : WordSummary} → Shaped w x → Shaped w y → Same (meaning w (followedWords w x y)) (rules.followed (meaning w x) (meaning w y))
   join-means {x} {y} p q =
       record {
         into =

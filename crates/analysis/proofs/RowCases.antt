@@ -13,7 +13,7 @@ use Rattle.calculus.specs.Syntax.{Stmt, skip, step, seq, loop, async, finish, c
 use Rattle.recipe.specs.Inner.{rowsAlone, OfAdmitted}
 use Rattle.recipe.specs.Statements.{statementAt}
 use Rattle.recipe.proofs.AloneLaws.{calls-below, first-smaller, second-smaller, loop-smaller, alone-skip, alone-step, alone-seq, alone-loop, alone-async, alone-finish, alone-call}
-use Rattle.analysis.specs.Summaries.{WordSummary, joinedWords, loopedWords, spawnedWords, waitedWords, wordsOf}
+use Rattle.analysis.specs.Summaries.{WordSummary, followedWords, loopedWords, spawnedWords, waitedWords, wordsOf}
 use Rattle.analysis.specs.Inner.{Ready, markedInto, stateWords, heldFor, rowWords}
 use Rattle.analysis.proofs.Shape.{Sized, Shaped, by-parts, sized-joined, shaped-called}
 use Rattle.analysis.proofs.Into.{crossed-into, merged-into, self-into, none-into, cleared-into}
@@ -105,7 +105,7 @@ module _ {z : Size} {pairs kinds xs ys held : List ℕ} {row : ℕ} (a : Standin
       -- the second is marked besides the first, and what is joined has the pairs of both
       pub seq-row :
           {v : WordSummary} → getD kinds row 0 ≡ 2 → v ≡ markedInto w (u .M) (of y)
-          → s ≡ joinedWords w (record { M = v .M; O = u .O; L = u .L }) v → s ≡ markedInto w pairs (of row)
+          → s ≡ followedWords w (record { M = v .M; O = u .O; L = u .L }) v → s ≡ markedInto w pairs (of row)
       seq-row {v} k q e =
           let X = shaped-child x (first-smaller table row there k) in
           let Y = shaped-child y (second-smaller table row there k) in

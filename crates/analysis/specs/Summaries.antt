@@ -21,8 +21,8 @@ abbrev pub stepWords : ℕ → ℕ → WordSummary
 stepWords w l = record { M = none (matrixWords w); O = none w; L = single w l }
 
 -- One after the other (10): unions, and what the first leaves running meets what the second runs.
-abbrev pub joinedWords : ℕ → WordSummary → WordSummary → WordSummary
-joinedWords w x y =
+abbrev pub followedWords : ℕ → WordSummary → WordSummary → WordSummary
+followedWords w x y =
     record {
       M = crossed w (x .O) (y .L) (merged w (x .M) (y .M));
       O = union w (x .O) (y .O);
@@ -45,7 +45,7 @@ waitedWords w x = record { M = x .M; O = none w; L = x .L }
 abbrev pub wordsOf : ℕ → (ℕ → WordSummary) → Stmt → WordSummary
 wordsOf w B skip = emptyWords w
 wordsOf w B (step l) = stepWords w l
-wordsOf w B (seq s t) = joinedWords w (wordsOf w B s) (wordsOf w B t)
+wordsOf w B (seq s t) = followedWords w (wordsOf w B s) (wordsOf w B t)
 wordsOf w B (loop s) = loopedWords w (wordsOf w B s)
 wordsOf w B (async s) = spawnedWords (wordsOf w B s)
 wordsOf w B (finish s) = waitedWords w (wordsOf w B s)

@@ -3,7 +3,7 @@ ghost use mathlib.Core.Path.{_≡_};
 ghost use Prim.Native.Nat.{_<_};
 ghost use lib.ListN.{length};
 ghost use Rattle.numbers.specs.Sizes.{ours};
-ghost use Rattle.analysis.specs.Summaries.{joinedWords, loopedWords};
+ghost use Rattle.analysis.specs.Summaries.{followedWords, loopedWords};
 ghost use Rattle.analysis.specs.Inner.{summaryWords, markedInto, stateWords, heldFor, rowWords, Ready};
 use crate::state::BLOCK_WORDS;
 use crate::summary::LabelSummary;
@@ -15,7 +15,7 @@ use numbers::RowNumber;
 // Two statements one after the other, where the pairs of both are marked: what the first leaves running meets what the second runs.
 fn sequence(pairs: &mut [u64], first: LabelSummary, second: LabelSummary) -> LabelSummary
     ensures { λ r. let m = now (pairs .entry) in
-        ⌜ summaryWords r (now (pairs .exit)) ≡ joinedWords (ours .words) (summaryWords first m) (summaryWords second m) ⌝ }
+        ⌜ summaryWords r (now (pairs .exit)) ≡ followedWords (ours .words) (summaryWords first m) (summaryWords second m) ⌝ }
 {
     matrix::cross(pairs, first.o, second.l);
     first.joined_with(second)
