@@ -10,9 +10,11 @@ use native.Mathlib.Decide.{decLt}
 use native.Mathlib.Omega.{arith}
 use borrow.Author.Tests.{leb-true, eqb-true, le-leb, eq-eqb}
 use lib.Dec.{eqb, leb}
-use Rattle.labels.specs.Sets.{ceiling, member}
-use Rattle.labels.specs.Matrix.{partners, marked}
-use Rattle.listing.specs.Pairs.{Pair, inTurn, pairAt, pairsOf, pairs}
+use Rattle.numbers.specs.General.{inTurn}
+use Rattle.numbers.specs.Sizes.{labelCeiling}
+use Rattle.labels.specs.Sets.{member}
+use Rattle.matrix.specs.Matrix.{partners, marked}
+use Rattle.listing.specs.Pairs.{Pair, pairAt, pairsOf, pairs}
 use Rattle.listing.specs.Order.{Before, Ascending}
 
 -- ---- lists in turn
@@ -92,7 +94,7 @@ ascending-pair s i j = go (leb i j && eqb (member s j) 1)
 
 ascending-pairs-of : (w : ℕ) (s : List ℕ) (i : ℕ) → Ascending (pairsOf w s i)
 ascending-pairs-of w s i =
-    ascending-in-turn (ceiling w) (pairAt s i) (λ j h. ascending-pair s i j)
+    ascending-in-turn (labelCeiling w) (pairAt s i) (λ j h. ascending-pair s i j)
     (λ k l p q h a b.
     let x = pair-of s i k p a .is in
     let y = pair-of s i l q b .is in
@@ -100,29 +102,29 @@ ascending-pairs-of w s i =
 
 first-label : (w : ℕ) (s : List ℕ) (i : ℕ) (p : Pair) → List·Memᴰ p (pairsOf w s i) → p .0 ≡ i
 first-label w s i p h =
-    let e = in-one-of (ceiling w) (pairAt s i) p h in ap (λ (z : Pair). z .0) (pair-of s i (e .place) p (e .there) .is)
+    let e = in-one-of (labelCeiling w) (pairAt s i) p h in ap (λ (z : Pair). z .0) (pair-of s i (e .place) p (e .there) .is)
 
 pub pairs-ascending : (w : ℕ) (m : List ℕ) → Ascending (pairs w m)
 pairs-ascending w m =
-    ascending-in-turn (ceiling w) (λ i. pairsOf w (partners w m i) i) (λ i h. ascending-pairs-of w (partners w m i) i)
+    ascending-in-turn (labelCeiling w) (λ i. pairsOf w (partners w m i) i) (λ i h. ascending-pairs-of w (partners w m i) i)
     (λ k l p q h a b. inl (omega (arith, first-label w (partners w m k) k p a, first-label w (partners w m l) l q b, h)))
 
 -- What a listed pair is.
 pub record MarkedPair (w : ℕ) (m : List ℕ) (p : Pair) : Type 0 where
   pub low : p .0 ≤ p .1
-  pub label : p .1 < ceiling w
+  pub label : p .1 < labelCeiling w
   pub mark : marked w m (p .0) (p .1) ≡ 1
 
 pub listed-is-marked : (w : ℕ) (m : List ℕ) (p : Pair) → List·Memᴰ p (pairs w m) → MarkedPair w m p
 unfolding marked
 listed-is-marked w m p h =
-    let e = in-one-of (ceiling w) (λ i. pairsOf w (partners w m i) i) p h in
-    let f = in-one-of (ceiling w) (pairAt (partners w m (e .place)) (e .place)) p (e .there) in
+    let e = in-one-of (labelCeiling w) (λ i. pairsOf w (partners w m i) i) p h in
+    let f = in-one-of (labelCeiling w) (pairAt (partners w m (e .place)) (e .place)) p (e .there) in
     let g = pair-of (partners w m (e .place)) (e .place) (f .place) p (f .there) in
     subst (λ (q : Pair). MarkedPair w m q) (sym (g .is)) (record { low = g .low; label = f .below; mark = g .partner })
 
-pub marked-is-listed : (w : ℕ) (m : List ℕ) (i j : ℕ) → i ≤ j → j < ceiling w → marked w m i j ≡ 1 → List·Memᴰ (i, j) (pairs w m)
+pub marked-is-listed : (w : ℕ) (m : List ℕ) (i j : ℕ) → i ≤ j → j < labelCeiling w → marked w m i j ≡ 1 → List·Memᴰ (i, j) (pairs w m)
 unfolding marked
 marked-is-listed w m i j h l e =
-    in-turn (ceiling w) (λ i. pairsOf w (partners w m i) i) (i, j) i (omega arith)
-    (in-turn (ceiling w) (pairAt (partners w m i) i) (i, j) j l (of-pair (partners w m i) i j h e))
+    in-turn (labelCeiling w) (λ i. pairsOf w (partners w m i) i) (i, j) i (omega arith)
+    (in-turn (labelCeiling w) (pairAt (partners w m i) i) (i, j) j l (of-pair (partners w m i) i j h e))

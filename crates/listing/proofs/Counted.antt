@@ -8,13 +8,14 @@ use native.Mathlib.Nat.{le-refl, zero-mul}
 use native.Mathlib.Omega.{arith}
 use lib.Dec.{eqb, leb}
 use lib.ListN.{length, length-append}
-use Rattle.labels.specs.Words.{oneIf, sumBelow}
-use Rattle.labels.specs.Sets.{ceiling, member}
-use Rattle.labels.specs.Matrix.{partners, marked, pairsAtOrAbove}
+use Rattle.numbers.specs.General.{oneIf, sumBelow, inTurn}
+use Rattle.numbers.specs.Sizes.{ours, labelCeiling}
+use Rattle.labels.specs.Sets.{member}
+use Rattle.matrix.specs.Matrix.{partners, marked, pairsAtOrAbove}
 use Rattle.labels.proofs.SetLaws.{member-lt}
-use Rattle.labels.proofs.MatrixLaws.{marked-lt}
-use Rattle.labels.proofs.SumLaws.{sum-alike}
-use Rattle.listing.specs.Pairs.{Pair, inTurn, pairAt, pairs}
+use Rattle.matrix.proofs.MatrixLaws.{marked-lt}
+use Rattle.numbers.proofs.SumLaws.{sum-alike}
+use Rattle.listing.specs.Pairs.{Pair, pairAt, pairs}
 
 length-in-turn : (n : ℕ) (f : ℕ → List Pair) → length (inTurn n f) ≡ sumBelow n (λ k. length (f k))
 unfolding inTurn sumBelow
@@ -32,10 +33,10 @@ pub count-is-lines : (w : ℕ) (m : List ℕ) → pairsAtOrAbove w m ≡ length 
 unfolding pairsAtOrAbove marked pairAt
 count-is-lines w m =
     sym
-    (length-in-turn (ceiling w) (λ i. inTurn (ceiling w) (pairAt (partners w m i) i))
-    ∙ sum-alike (ceiling w) _ _
-    (λ i h. length-in-turn (ceiling w) (pairAt (partners w m i) i)
-    ∙ sum-alike (ceiling w) _ _ (λ j l. one-or-none (i, j) (leb i j) (member (partners w m i) j) (member-lt (partners w m i) j))))
+    (length-in-turn (labelCeiling w) (λ i. inTurn (labelCeiling w) (pairAt (partners w m i) i))
+    ∙ sum-alike (labelCeiling w) _ _
+    (λ i h. length-in-turn (labelCeiling w) (pairAt (partners w m i) i)
+    ∙ sum-alike (labelCeiling w) _ _ (λ j l. one-or-none (i, j) (leb i j) (member (partners w m i) j) (member-lt (partners w m i) j))))
 
 pub sum-monotone : (n : ℕ) (f g : ℕ → ℕ) → ((k : ℕ) → k < n → f k ≤ g k) → sumBelow n f ≤ sumBelow n g
 unfolding sumBelow
@@ -49,15 +50,18 @@ at-most : (t : Bool) (x : ℕ) → x < 2 → oneIf t * x ≤ oneIf t
 at-most true x h = omega arith
 at-most false x h = omega (arith, zero-mul x)
 
--- all labels meet all: one pair for each two labels and for each label with itself
-every-pair : sumBelow (ceiling 1) (λ i. sumBelow (ceiling 1) (λ j. oneIf (leb i j))) ≡ 2080
+-- all labels of our size meet all: one pair for each two labels and for each label with itself
+abbrev labels : ℕ
+labels = labelCeiling (ours .words)
+
+every-pair : sumBelow labels (λ i. sumBelow labels (λ j. oneIf (leb i j))) ≡ 2080
 unfolding sumBelow
 every-pair = refl
 
-pub pairs-few : (m : List ℕ) → pairsAtOrAbove 1 m ≤ 2080
+pub pairs-few : (m : List ℕ) → pairsAtOrAbove (ours .words) m ≤ 2080
 unfolding pairsAtOrAbove
 pairs-few m =
     rw (sym every-pair)
-    (sum-monotone (ceiling 1) (λ i. sumBelow (ceiling 1) (λ j. oneIf (leb i j) * marked 1 m i j)) (λ i. sumBelow (ceiling 1) (λ j. oneIf (leb i j)))
-    (λ i h. sum-monotone (ceiling 1) (λ j. oneIf (leb i j) * marked 1 m i j) (λ j. oneIf (leb i j))
-    (λ j l. at-most (leb i j) (marked 1 m i j) (marked-lt 1 m i j))))
+    (sum-monotone labels (λ i. sumBelow labels (λ j. oneIf (leb i j) * marked (ours .words) m i j)) (λ i. sumBelow labels (λ j. oneIf (leb i j)))
+    (λ i h. sum-monotone labels (λ j. oneIf (leb i j) * marked (ours .words) m i j) (λ j. oneIf (leb i j))
+    (λ j l. at-most (leb i j) (marked (ours .words) m i j) (marked-lt (ours .words) m i j))))

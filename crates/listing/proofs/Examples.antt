@@ -5,11 +5,12 @@ use mathlib.Core.Bool.{false, true}
 use mathlib.Core.List.{List, [], _∷_}
 use Prim.Native.Nat.{ℕ, _^_}
 use lib.ListN.{replicate, set}
-use Rattle.labels.specs.Words.{bit, sumBelow}
+use Rattle.numbers.specs.General.{inTurn, sumBelow}
+use Rattle.labels.specs.Words.{bit}
 use Rattle.labels.specs.Sets.{member}
-use Rattle.labels.specs.Matrix.{marked, pairsAtOrAbove}
+use Rattle.matrix.specs.Matrix.{marked, pairsAtOrAbove}
 use Rattle.text.specs.Numbers.{spelled, spelledIn}
-use Rattle.listing.specs.Pairs.{inTurn, pairAt, pairs}
+use Rattle.listing.specs.Pairs.{pairAt, pairs}
 use Rattle.listing.specs.Listing.{opening, pairLine, lines, listing}
 
 -- 0 meets 1, 2 and 3, and 1 meets 2, each both ways round.

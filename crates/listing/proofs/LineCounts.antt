@@ -9,16 +9,17 @@ use native.Mathlib.Omega.{arith}
 use borrow.Author.Tests.{eqb-true}
 use lib.Dec.{eqb}
 use lib.ListN.{length}
-use Rattle.labels.specs.Words.{oneIf}
-use Rattle.labels.specs.Matrix.{pairsAtOrAbove}
-use Rattle.text.specs.Bytes.{tab, newline, isDigit}
+use Rattle.numbers.specs.General.{oneIf}
+use Rattle.matrix.specs.Matrix.{pairsAtOrAbove}
+use Rattle.text.specs.Bytes.{ascii, tab, newline, isDigit}
 use Rattle.text.specs.Numbers.{spelled}
 use Rattle.text.proofs.DigitLaws.{newline-no-digit}
 use Rattle.text.proofs.SpelledLaws.{spelled-digits}
+use Rattle.text.specs.Lines.{line}
+use Rattle.text.proofs.LineLaws.{ended, first-field}
 use Rattle.listing.specs.Pairs.{Pair, pairs}
 use Rattle.listing.specs.Order.{lineCount}
-use Rattle.listing.specs.Listing.{pairsWord, roundsWord, wordOf, opening, pairLine, lines, listing}
-use Rattle.listing.proofs.LineLaws.{ended, openingRest, pair-line-fields, opening-fields}
+use Rattle.listing.specs.Listing.{verdictText, opening, pairLine, lines, listing}
 use Rattle.listing.proofs.Counted.{count-is-lines}
 
 count-joined : (a b : List ℕ) → lineCount (a ++ b) ≡ lineCount a + lineCount b
@@ -39,36 +40,43 @@ no-newline (x ∷ a) digits =
         absurd
         (false≢true (sym newline-no-digit ∙ ap isDigit (sym (eqb-true x newline e)) ∙ digits x (List·Memᴰ·head refl)))
 
-number-in-line : (n end : ℕ) → lineCount (ended (spelled n) end) ≡ oneIf (eqb end newline)
-unfolding lineCount
-number-in-line n end =
-    count-joined (spelled n) (end ∷ [])
-    ∙ omega (arith, no-newline (spelled n) (spelled-digits n))
+number-in-line : (n : ℕ) → lineCount (spelled n) ≡ 0
+number-in-line n = no-newline (spelled n) (spelled-digits n)
 
-word-in-line : (wide : Bool) → lineCount (ended (wordOf wide) newline) ≡ 1
+-- The fields of a line bring their own newlines, and the line brings one.
+first-in-line : (field next : List ℕ) (more : List (List ℕ)) → lineCount (line field (next ∷ more)) ≡ lineCount field + lineCount (line next more)
 unfolding lineCount
-word-in-line true = refl
-word-in-line false = refl
+first-in-line field next more =
+    ap lineCount (first-field field next more)
+    ∙ omega (arith, count-joined (ended field tab) (line next more), count-joined field (tab ∷ []))
+
+last-in-line : (field : List ℕ) → lineCount (line field []) ≡ lineCount field + 1
+unfolding lineCount
+last-in-line field = count-joined field (newline ∷ [])
+
+verdict-in-line : (wide : Bool) → lineCount (verdictText wide) ≡ 0
+unfolding lineCount
+verdict-in-line true = refl
+verdict-in-line false = refl
 
 pair-line-is-one : (i j : ℕ) → lineCount (pairLine i j) ≡ 1
+unfolding pairLine
 pair-line-is-one i j =
-    ap lineCount (pair-line-fields i j)
-    ∙ count-joined (ended (spelled i) tab) (ended (spelled j) newline)
-    ∙ ap₂ _+_ (number-in-line i tab) (number-in-line j newline)
+    omega (arith, first-in-line (spelled i) (spelled j) [], last-in-line (spelled j), number-in-line i, number-in-line j)
 
 opening-is-one : (count rounds : ℕ) (wide : Bool) → lineCount (opening count rounds wide) ≡ 1
-unfolding lineCount
+unfolding opening lineCount
 opening-is-one count rounds wide =
-    ap lineCount (opening-fields count rounds wide)
-    ∙ omega (
+    omega (
       arith,
-      count-joined (ended pairsWord tab) (openingRest count rounds wide),
-      count-joined (ended (spelled count) tab) (ended roundsWord tab ++ (ended (spelled rounds) tab ++ ended (wordOf wide) newline)),
-      count-joined (ended roundsWord tab) (ended (spelled rounds) tab ++ ended (wordOf wide) newline),
-      count-joined (ended (spelled rounds) tab) (ended (wordOf wide) newline),
-      number-in-line count tab,
-      number-in-line rounds tab,
-      word-in-line wide,
+      first-in-line (ascii "pairs") (spelled count) (ascii "rounds" ∷ spelled rounds ∷ verdictText wide ∷ []),
+      first-in-line (spelled count) (ascii "rounds") (spelled rounds ∷ verdictText wide ∷ []),
+      first-in-line (ascii "rounds") (spelled rounds) (verdictText wide ∷ []),
+      first-in-line (spelled rounds) (verdictText wide) [],
+      last-in-line (verdictText wide),
+      number-in-line count,
+      number-in-line rounds,
+      verdict-in-line wide,
     )
 
 a-line-each : (p : List Pair) → lineCount (lines p) ≡ length p

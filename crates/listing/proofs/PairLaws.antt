@@ -4,21 +4,21 @@ use mathlib.Core.Path.{_≡_, refl, sym, ap, ap₂, _∙_}
 use mathlib.Core.Bool.{Bool, true, false, cond, _&&_}
 use mathlib.Core.List.{List, [], _∷_, _++_}
 use Prim.Native.Nat.{ℕ, zero, suc, _+_, _≤_, _<_}
-use native.Mathlib.Nat.{le-refl, not-suc-le-zero, mul-one}
-use native.Mathlib.Decide.{decLt}
+use native.Mathlib.Nat.{le-refl, mul-one}
 use native.Mathlib.Numerals.{add-one}
 use native.Mathlib.Omega.{arith}
 use borrow.Author.Tests.{le-leb, lt-leb}
 use lib.Dec.{eqb, leb}
 use lib.ListN.{length, getD, take, drop, length-append}
 use lib.Seq.{drop-cons}
-use Rattle.labels.specs.Words.{sumBelow}
+use Rattle.numbers.specs.General.{inTurn, sumBelow}
+use Rattle.numbers.specs.Sizes.{ours}
 use Rattle.labels.specs.Sets.{member}
-use Rattle.labels.specs.Matrix.{partners}
-use Rattle.listing.specs.Pairs.{Pair, inTurn, pairAt, pairsOf}
+use Rattle.matrix.specs.Matrix.{partners}
+use Rattle.listing.specs.Pairs.{Pair, pairAt, pairsOf}
 use Rattle.listing.specs.Listing.{pairLine, lines}
-use Rattle.listing.specs.Writing.{Room, Put}
-use Rattle.listing.proofs.PutLaws.{put-nothing, put-behind, put-keeps}
+use Rattle.text.specs.Putting.{Put}
+use Rattle.text.proofs.PutLaws.{put-nothing, put-behind, put-keeps}
 use Rattle.listing.proofs.LineLaws.{lines-append, lines-one}
 
 -- ---- one pair
@@ -70,24 +70,11 @@ module _ (f : ℕ → List Pair) where
   bytes-in-turn zero = ap length lines-none
   bytes-in-turn (suc n) = bytes-more n ∙ ap (λ (x : ℕ). x + length (lines (f n))) (bytes-in-turn n)
 
-  pub bytes-within : (n k : ℕ) → k < n → length (linesBelow k) + length (lines (f k)) ≤ length (linesBelow n)
-  bytes-within zero k h = absurd (not-suc-le-zero h)
-  bytes-within (suc n) k h = by-order (decLt k n) (bytes-within n k)
-    where
-      by-order :
-          Dec (k < n) → (k < n → length (linesBelow k) + length (lines (f k)) ≤ length (linesBelow n))
-          → length (linesBelow k) + length (lines (f k)) ≤ length (linesBelow (suc n))
-      by-order (yes l) earlier = omega (arith, earlier l, bytes-more n)
-      by-order (no l) earlier =
-          let last : k ≡ n = omega arith in
-          rw (last) (omega (arith, bytes-more n))
-
 -- ---- a loop that writes the lines of f 0, f 1, .. up to and without f n
 
 pub record Writing (n : ℕ) (f : ℕ → List Pair) (old : List ℕ) (at : ℕ) (new : List ℕ) (next k : ℕ) : Type 0 where
   pub passed : k ≤ n
   pub put : Put old at (linesBelow f k) new next
-  pub size : length new ≡ length old
 
 module _ {n : ℕ} {f : ℕ → List Pair} {old : List ℕ} {at : ℕ} where
   pub begins : (k : ℕ) → k ≤ n → ((j : ℕ) → j < k → f j ≡ []) → Writing n f old at old at k
@@ -96,22 +83,16 @@ module _ {n : ℕ} {f : ℕ → List Pair} {old : List ℕ} {at : ℕ} where
       record {
         passed = h;
         put = rw (none-in-turn k f e) (put-nothing old at);
-        size = refl;
       }
-
-  pub room : {new : List ℕ} {next k : ℕ} → Room old at (linesBelow f n) → Writing n f old at new next k → k < n → Room new next (lines (f k))
-  room {new} {next} {k} r w h = omega (arith, bytes-within f n k h, w .put .place, w .size)
 
   pub goes-on :
       {new new' : List ℕ} {next next' k : ℕ} → Writing n f old at new next k → k < n → Put new next (lines (f k)) new' next'
       → Writing n f old at new' next' (k + 1)
   goes-on {new} {new'} {next} {next'} {k} w h p =
-      let both = put-behind (w .put) p in
-      record {
-        passed = omega arith;
-        put = rw (add-one k, lines-more f k) both;
-        size = put-keeps both;
-      }
+      record { passed = omega arith; put = rw (add-one k, lines-more f k) (put-behind (w .put) p) }
+
+  pub keeps : {new : List ℕ} {next k : ℕ} → Writing n f old at new next k → length new ≡ length old
+  keeps w = put-keeps (w .put)
 
   pub ends : {new : List ℕ} {next k : ℕ} → Writing n f old at new next k → n ≤ k → Put old at (linesBelow f n) new next
   ends {new} {next} {k} w h = let done : k ≡ n = omega arith in rw done at (w .put)
@@ -141,9 +122,13 @@ module _ {n : ℕ} {f : ℕ → List Pair} where
 
 -- ---- one word a label
 
-partners-one : (m : List ℕ) (i : ℕ) → i < length m → partners 1 m i ≡ getD m i 0 ∷ []
+partners-one : (m : List ℕ) (i : ℕ) → i < length m → partners (ours .words) m i ≡ getD m i 0 ∷ []
 partners-one m i h =
     ap (λ (k : ℕ). take 1 (drop k m)) (mul-one i) ∙ ap (take 1) (drop-cons m i 0 h)
 
-pub row-one : (m : List ℕ) (i : ℕ) → i < length m → lines (pairsOf 1 (partners 1 m i) i) ≡ lines (pairsOf 1 (getD m i 0 ∷ []) i)
-row-one m i h = ap (λ (s : List ℕ). lines (pairsOf 1 s i)) (partners-one m i h)
+-- The lines of label i's pairs, by the words of the matrix.
+abbrev pub rowOf : List ℕ → ℕ → List Pair
+rowOf m i = pairsOf (ours .words) (partners (ours .words) m i) i
+
+pub row-one : (m : List ℕ) (i : ℕ) → i < length m → lines (rowOf m i) ≡ lines (pairsOf (ours .words) (getD m i 0 ∷ []) i)
+row-one m i h = ap (λ (s : List ℕ). lines (pairsOf (ours .words) s i)) (partners-one m i h)

@@ -2,4 +2,3 @@ pub mod Pairs
 pub mod Order
 pub mod Listing
 pub mod Replies
-pub mod Writing

@@ -4,7 +4,7 @@ use mathlib.Core.Logic.{_⊎_}
 use mathlib.Core.List.{List, [], _∷_, List·Memᴰ}
 use Prim.Native.Nat.{ℕ, _+_, _<_}
 use lib.Dec.{eqb}
-use Rattle.labels.specs.Words.{oneIf}
+use Rattle.numbers.specs.General.{oneIf}
 use Rattle.text.specs.Bytes.{newline}
 use Rattle.listing.specs.Pairs.{Pair}
 

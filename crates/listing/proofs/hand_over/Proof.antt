@@ -1,18 +1,22 @@
--- `hand_over` meets its contract: the length is known before anything is written, and the lent matrix is cleared and takes the pairs.
+-- `hand_over` meets its contract: the length is known before anything is written, and the lent matrix takes the pairs.
 -- Assumes nothing.
 use mathlib.Core.Path.{refl, ap, _∙_}
 use mathlib.Core.List.{List}
 use Prim.Native.Nat.{ℕ}
 use denote.Ref.{now}
 use lib.ListN.{length}
-use Rattle.labels.specs.Matrix.{merged}
-use Rattle.labels.proofs.MatrixLaws.{merged-cleared}
+use Rattle.numbers.specs.Sizes.{ours}
+use Rattle.matrix.proofs.MatrixLaws.{copied-laid}
 use Rattle.listing.specs.Listing.{listing}
 use Rattle.listing.specs.declared.Listed.the-variants as reply
 use Rattle.listing.proofs.ReplyLaws.{fits, too-long}
 use borrow.Author.Needs.{needs}
 use Rattle.listing.proofs.hand_over.Statement.{statement}
 use Rattle.listing.proofs.hand_over.Tie as tie
+
+-- the listing of what was lent
+abbrev text : tie.Start → List ℕ
+text s = listing (ours .words) (now (s .args .pairs)) (s .args .rounds) (s .args .wide)
 
 count-requires : tie.Need-count-requires
 count-requires c κs = search needs
@@ -22,18 +26,14 @@ listing-length-requires c κs = search needs
 
 returns : tie.Need-returns
 returns c =
-    let a = c .before .before .before .before .before .before .args in
-    let text = listing 1 (now (a .pairs)) (a .rounds) (a .wide) in
-    (too-long text (length (now (a .bytes))) (rw (c .before .listing-length .ensures) at (c .if1 .taken)), (refl, refl))
+    let s = c .before .before .before .before .before .before in
+    (too-long (text s) (length (now (s .args .bytes))) (rw (c .before .listing-length .ensures) at (c .if1 .taken)), (refl, refl))
 
 put-listing-requires : tie.Need-put-listing-requires
 put-listing-requires c κs = search needs
 
-clear-requires : tie.Need-clear-requires
-clear-requires c κs = search needs
-
-merge-requires : tie.Need-merge-requires
-merge-requires c κs = search needs
+copy-requires : tie.Need-copy-requires
+copy-requires c κs = search needs
 
 same-length : tie.Need-same-length
 same-length c = search needs
@@ -43,17 +43,13 @@ same-length-2 c = search needs
 
 returns-2 : tie.Need-returns-2
 returns-2 c =
-    let s = c .before .before .before .before .before .before .before .before .before .before .before .before .before .before .before .before .before .before in
-    let a = s .args in
-    let text = listing 1 (now (a .pairs)) (a .rounds) (a .wide) in
-    let known = c .before .before .before .before .before .before .before .before .before .before .before .before .before .listing-length .ensures in (
-      ap reply.Length known ∙ fits text (length (now (a .bytes))) (rw known at (c .before .before .before .before .before .before .before .before .before .before .before .before .if1 .left)),
-      (
-        c .before .before .merge .ensures
-            ∙ ap (λ (m : List ℕ). merged 1 m (now (a .pairs))) (c .before .before .before .before .before .before .clear .ensures)
-            ∙ merged-cleared 1 (now (a .matrix)) (now (a .pairs)) (s .pre .1) (s .pre .0),
-        c .before .before .before .before .before .before .before .before .before .before .put-listing .ensures,
-      ),
+    let copied = c .before .before in
+    let put = copied .before .before .before .before in
+    let room = put .before .before in
+    let known = room .before .listing-length .ensures in
+    let s = room .before .before .before .before .before .before in (
+      ap reply.Length known ∙ fits (text s) (length (now (s .args .bytes))) (rw known at (room .if1 .left)),
+      (copied .copy .ensures ∙ copied-laid (ours .words) (now (s .args .matrix)) (now (s .args .pairs)) (s .pre .1) (s .pre .0), put .put-listing .ensures),
     )
 
 pub hand-over-spec : {M : Type 1} → statement M
@@ -64,8 +60,7 @@ hand-over-spec =
     listing-length-requires
     returns
     put-listing-requires
-    clear-requires
-    merge-requires
+    copy-requires
     same-length
     same-length-2
     returns-2)

@@ -1,15 +1,28 @@
 -- `list_admitted` meets its contract: the analysis into a matrix of its own gives main's pairs and the rounds, and what is handed over is their listing.
 -- Assumes nothing.
 use mathlib.Core.Path.{refl, sym, _∙_}
+use mathlib.Core.List.{List}
+use Prim.Native.Nat.{ℕ}
 use denote.Ref.{now}
 use native.Mathlib.Nat.{le-refl}
+use Rattle.numbers.specs.Sizes.{ours, matrixWords}
 use Rattle.labels.specs.Sets.{none}
-use Rattle.labels.specs.Matrix.{matrixWords}
-use Rattle.recipe.specs.Tables.{tableOf}
+use Rattle.recipe.specs.Tables.{Table, tableOf}
 use Rattle.listing.proofs.ReplyLaws.{rounds-given, never-refused, pairs-given, handed-over}
 use borrow.Author.Needs.{needs}
 use Rattle.listing.proofs.list_admitted.Statement.{statement}
 use Rattle.listing.proofs.list_admitted.Tie as tie
+
+-- where the analysis has replied: the start of the function, and the lent table
+abbrev start : tie.After-analyse → tie.Start
+start c = c .before .before .before .before .before .before .before .before
+
+abbrev table : tie.After-analyse → Table
+table c = let a = start c .args in tableOf (now (a .kinds)) (now (a .xs)) (now (a .ys)) (now (a .roots))
+
+-- the matrix that the analysis was lent
+abbrev fresh : List ℕ
+fresh = none (matrixWords (ours .words))
 
 slice-aggregate-analyse : tie.Need-slice-aggregate-analyse
 slice-aggregate-analyse c = search needs
@@ -34,9 +47,8 @@ hand-over-requires c κs = search needs
 
 returns : tie.Need-returns
 returns c =
-    let s = c .before .before .before .before .before .before .before .before .before .before .before .before in
-    let a = s .args in
-    absurd (never-refused (tableOf (now (a .kinds)) (now (a .xs)) (now (a .ys)) (now (a .roots))) (s .pre .0) (none (matrixWords 1)) (le-refl (matrixWords 1)) (sym (c .before .r .given .1) ∙ c .before .before .before .before .analyse .ensures .0))
+    let n = c .before .before .before .before in
+    absurd (never-refused ours (table n) (start n .pre .0) fresh (le-refl (matrixWords (ours .words))) (sym (c .before .r .given .1) ∙ n .analyse .ensures .0))
 
 same-length : tie.Need-same-length
 same-length c = search needs
@@ -46,15 +58,17 @@ same-length-2 c = search needs
 
 returns-2 : tie.Need-returns-2
 returns-2 c =
-    let s = c .before .before .before .before .before .before .before .before .before .before .before .before .before .before .before .before .before .before .before .before .before in
-    let a = s .args in
-    let t = tableOf (now (a .kinds)) (now (a .xs)) (now (a .ys)) (now (a .roots)) in
-    let given = c .before .before .before .before .hand-over .ensures in
-    let analysed = c .before .before .before .before .before .before .before .before .before .before .before .before .before .analyse .ensures in
+    let handed = c .before .before .before .before in
+    let given = handed .hand-over .ensures in
+    let asked = handed .before .before .before .before in
+    let known = asked .before .before in
+    let n = known .before .before .before in
+    let s = start n in
     let h =
-    handed-over t (now (a .matrix)) (now (a .bytes)) (analysed .1 ∙ pairs-given t (s .pre .0) (none (matrixWords 1)) refl)
-    (rounds-given t (s .pre .0) (none (matrixWords 1)) (le-refl (matrixWords 1)) (sym (c .before .before .before .before .before .before .before .before .before .before .rounds .given .1) ∙ analysed .0))
-    (c .before .before .before .before .before .before .before .before .is-wide .ensures)
+    handed-over ours (table n) (now (s .args .matrix)) (now (s .args .bytes))
+    (n .analyse .ensures .1 ∙ pairs-given ours (table n) (s .pre .0) fresh refl)
+    (rounds-given ours (table n) (s .pre .0) fresh (le-refl (matrixWords (ours .words))) (sym (known .rounds .given .1) ∙ n .analyse .ensures .0))
+    (asked .is-wide .ensures)
     (record { said = given .0; matrix = given .1 .0; bytes = given .1 .1 }) in
     (h .said, (h .matrix, h .bytes))
 

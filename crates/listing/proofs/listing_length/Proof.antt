@@ -5,6 +5,7 @@ use Prim.Native.Nat.{ℕ, _+_}
 use native.Mathlib.Omega.{arith}
 use denote.Ref.{now}
 use lib.ListN.{length, length-append}
+use Rattle.numbers.specs.Sizes.{ours}
 use Rattle.listing.specs.Pairs.{pairs}
 use Rattle.listing.specs.Listing.{opening, lines, listing}
 use borrow.Author.Needs.{needs}
@@ -26,7 +27,7 @@ returns c =
     let s = c .before .before .before in
     let a = s .args in
     ap₂ _+_ (c .before .opening-length .ensures .0 ∙ ap (λ (n : ℕ). length (opening n (a .rounds) (a .wide))) (s .pre .0)) (c .pairs-length .ensures .0)
-    ∙ sym (length-append (opening _ (a .rounds) (a .wide)) (lines (pairs 1 (now (a .pairs)))))
+    ∙ sym (length-append (opening _ (a .rounds) (a .wide)) (lines (pairs (ours .words) (now (a .pairs)))))
 
 pub listing-length-spec : {M : Type 1} → statement M
 listing-length-spec = tie.close (tie.spec opening-length-requires pairs-length-requires add-result returns)

@@ -8,8 +8,14 @@ use borrow.Author.Needs.{needs}
 use Rattle.listing.proofs.lines.line_length.Statement.{statement}
 use Rattle.listing.proofs.lines.line_length.Tie as tie
 
+cast-digits : tie.Need-cast-digits
+cast-digits c = search needs
+
 digits-requires : tie.Need-digits-requires
 digits-requires c κs = search needs
+
+cast-digits-2 : tie.Need-cast-digits-2
+cast-digits-2 c = search needs
 
 digits-requires-2 : tie.Need-digits-requires-2
 digits-requires-2 c κs = search needs
@@ -22,11 +28,11 @@ add-result-2 c = omega arith
 
 returns : tie.Need-returns
 returns c =
-    let a = c .before .before .args in (
-      ap₂ (λ (x y : ℕ). x + y + 2) (c .before .digits .ensures .0) (c .digits2 .ensures .0) ∙ sym (length-pair-line (a .i) (a .j)),
+    let a = c .before .before .before .before .args in (
+      ap₂ (λ (x y : ℕ). x + y + 2) (c .before .before .digits .ensures .0) (c .digits2 .ensures .0) ∙ sym (length-pair-line (a .i .0) (a .j .0)),
       omega arith,
     )
 
 pub line-length-spec : {M : Type 1} → statement M
 line-length-spec =
-    tie.close (tie.spec digits-requires digits-requires-2 add-result add-result-2 returns)
+    tie.close (tie.spec cast-digits digits-requires cast-digits-2 digits-requires-2 add-result add-result-2 returns)

@@ -1,4 +1,4 @@
--- `opening_length` meets its contract: two numbers, the word, and sixteen bytes that are the same in each opening line.
+-- `opening_length` meets its contract: two numbers, the verdict, and sixteen bytes that are the same in each opening line.
 -- Assumes nothing.
 use mathlib.Core.Path.{sym, ap₂, _∙_}
 use Prim.Native.Nat.{ℕ, _+_}
@@ -17,8 +17,8 @@ digits-requires-2 c κs = search needs
 add-result : tie.Need-add-result
 add-result c = search needs
 
-word-length-requires : tie.Need-word-length-requires
-word-length-requires c κs = search needs
+verdict-length-requires : tie.Need-verdict-length-requires
+verdict-length-requires c κs = search needs
 
 add-result-2 : tie.Need-add-result-2
 add-result-2 c = search needs
@@ -29,7 +29,7 @@ add-result-3 c = search needs
 returns : tie.Need-returns
 returns c =
     let a = c .before .before .before .args in (
-      ap₂ (λ (x y : ℕ). x + y + 16) (ap₂ _+_ (c .before .before .digits .ensures .0) (c .before .digits2 .ensures .0)) (c .word-length .ensures .0)
+      ap₂ (λ (x y : ℕ). x + y + 16) (ap₂ _+_ (c .before .before .digits .ensures .0) (c .before .digits2 .ensures .0)) (c .verdict-length .ensures .0)
           ∙ sym (length-opening (a .count) (a .rounds) (a .wide)),
       omega arith,
     )
@@ -41,7 +41,7 @@ opening-length-spec =
     digits-requires
     digits-requires-2
     add-result
-    word-length-requires
+    verdict-length-requires
     add-result-2
     add-result-3
     returns)

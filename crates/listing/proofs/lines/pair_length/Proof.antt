@@ -9,9 +9,6 @@ use borrow.Author.Needs.{needs}
 use Rattle.listing.proofs.lines.pair_length.Statement.{statement}
 use Rattle.listing.proofs.lines.pair_length.Tie as tie
 
-cast-t5 : tie.Need-cast-t5
-cast-t5 c = search needs
-
 is-in-requires : tie.Need-is-in-requires
 is-in-requires c κs = search needs
 
@@ -22,14 +19,14 @@ returns : tie.Need-returns
 returns c =
     let s = c .before .before .before in
     let e = sym (c .before .before .is-in .ensures) ∙ c .before .if1 .taken in
-    (c .line-length .ensures .0 ∙ sym (ap length (line-of-marked (s .args .partners ∷ []) (s .args .i) (s .args .j) (s .pre .0) e)), omega arith)
+    (c .line-length .ensures .0 ∙ sym (ap length (line-of-marked (s .args .partners ∷ []) (s .args .i .0) (s .args .j .0) (s .pre) e)), omega arith)
 
 returns-2 : tie.Need-returns-2
 returns-2 c =
     let s = c .before .before in
     let e = sym (c .before .is-in .ensures) ∙ c .if1 .left in
-    (sym (ap length (no-line-of-unmarked (s .args .partners ∷ []) (s .args .i) (s .args .j) (s .pre .0) e)), omega arith)
+    (sym (ap length (no-line-of-unmarked (s .args .partners ∷ []) (s .args .i .0) (s .args .j .0) (s .pre) e)), omega arith)
 
 pub pair-length-spec : {M : Type 1} → statement M
 pair-length-spec =
-    tie.close (tie.spec cast-t5 is-in-requires line-length-requires returns returns-2)
+    tie.close (tie.spec is-in-requires line-length-requires returns returns-2)

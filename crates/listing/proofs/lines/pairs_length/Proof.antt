@@ -5,18 +5,16 @@ use Prim.Native.Nat.{_*_, _-_, _≤_}
 use denote.Ref.{now}
 use lib.ListN.{length}
 use native.Mathlib.Omega.{arith}
-use Rattle.labels.specs.Sets.{ceiling}
-use Rattle.labels.specs.Matrix.{partners}
-use Rattle.listing.specs.Pairs.{pairsOf}
-use Rattle.listing.proofs.PairLaws.{Summing, sum-begins, sum-goes-on, sum-ends, row-one}
+use Rattle.numbers.specs.Sizes.{ours, labelCeiling}
+use Rattle.listing.proofs.PairLaws.{Summing, sum-begins, sum-goes-on, sum-ends, rowOf, row-one}
 use Rattle.listing.proofs.lines.pairs_length.Statement.{statement}
 use Rattle.listing.proofs.lines.pairs_length.Tie as tie
 
 abbrev Inv-loop : tie.InvT-loop
-Inv-loop matrix sum₀ i₀ sum i = Summing (ceiling 1) (λ k. pairsOf 1 (partners 1 matrix k) k) sum i × (sum ≤ 42 * ceiling 1 * i)
+Inv-loop matrix sum₀ i₀ sum i = Summing (labelCeiling (ours .words)) (rowOf matrix) sum i × (sum ≤ 42 * labelCeiling (ours .words) * i)
 
 abbrev μ-loop : tie.MeasureT-loop
-μ-loop matrix sum₀ i₀ sum i = ceiling 1 - i
+μ-loop matrix sum₀ i₀ sum i = labelCeiling (ours .words) - i
 
 loop-holds : tie.Need-loop-holds Inv-loop μ-loop
 loop-holds c = (sum-begins 0 (omega arith) (λ j h. absurd (omega arith)), omega arith)
@@ -26,6 +24,9 @@ mul-row-length c = omega arith
 
 shared-slice-read-row-length : tie.Need-shared-slice-read-row-length Inv-loop μ-loop
 shared-slice-read-row-length c = omega arith
+
+cast-t9 : tie.Need-cast-t9 Inv-loop μ-loop
+cast-t9 c = omega arith
 
 row-length-requires : tie.Need-row-length-requires Inv-loop μ-loop
 row-length-requires c κs = omega arith
@@ -58,6 +59,7 @@ pairs-length-spec =
     loop-holds
     mul-row-length
     shared-slice-read-row-length
+    cast-t9
     row-length-requires
     add-sum
     add-i

@@ -3,23 +3,17 @@
 use mathlib.Core.Path.{sym, _∙_}
 use mathlib.Core.List.{[], _∷_}
 use denote.Ref.{now}
-use Rattle.listing.proofs.PutLaws.{put-nothing}
+use Rattle.text.proofs.PutLaws.{put-nothing}
 use Rattle.listing.proofs.PairLaws.{line-of-marked, no-line-of-unmarked}
 use borrow.Author.Needs.{needs}
 use Rattle.listing.proofs.lines.put_pair.Statement.{statement}
 use Rattle.listing.proofs.lines.put_pair.Tie as tie
 
-cast-t7 : tie.Need-cast-t7
-cast-t7 c = search needs
-
 is-in-requires : tie.Need-is-in-requires
 is-in-requires c κs = search needs
 
 put-line-requires : tie.Need-put-line-requires
-put-line-requires c κs =
-    let s = c .before .before .before .before in
-    let e = sym (c .before .before .is-in .ensures) ∙ c .before .if1 .taken in
-    rw (line-of-marked (s .args .partners ∷ []) (s .args .i) (s .args .j) (s .pre .0 .0) e) at (s .pre .1)
+put-line-requires c κs = search needs
 
 same-length : tie.Need-same-length
 same-length c = search needs
@@ -28,14 +22,14 @@ returns : tie.Need-returns
 returns c =
     let s = c .before .before .before .before .before .before .before in
     let e = sym (c .before .before .before .before .before .is-in .ensures) ∙ c .before .before .before .before .if1 .taken in
-    rw (line-of-marked (s .args .partners ∷ []) (s .args .i) (s .args .j) (s .pre .0 .0) e) (c .before .before .put-line .ensures)
+    rw (line-of-marked (s .args .partners ∷ []) (s .args .i .0) (s .args .j .0) (s .pre) e) (c .before .before .put-line .ensures)
 
 returns-2 : tie.Need-returns-2
 returns-2 c =
     let s = c .before .before .before in
     let e = sym (c .before .is-in .ensures) ∙ c .if1 .left in
-    rw (no-line-of-unmarked (s .args .partners ∷ []) (s .args .i) (s .args .j) (s .pre .0 .0) e) (put-nothing (now (s .args .bytes)) (s .args .at))
+    rw (no-line-of-unmarked (s .args .partners ∷ []) (s .args .i .0) (s .args .j .0) (s .pre) e) (put-nothing (now (s .args .bytes)) (s .args .at))
 
 pub put-pair-spec : {M : Type 1} → statement M
 put-pair-spec =
-    tie.close (tie.spec cast-t7 is-in-requires put-line-requires same-length returns returns-2)
+    tie.close (tie.spec is-in-requires put-line-requires same-length returns returns-2)

@@ -3,18 +3,16 @@
 use Prim.Native.Nat.{_-_}
 use denote.Ref.{now}
 use native.Mathlib.Omega.{arith}
-use Rattle.labels.specs.Sets.{ceiling}
-use Rattle.labels.specs.Matrix.{partners}
-use Rattle.listing.specs.Pairs.{pairsOf}
-use Rattle.listing.proofs.PairLaws.{Writing, begins, room, goes-on, ends, row-one}
+use Rattle.numbers.specs.Sizes.{ours, labelCeiling}
+use Rattle.listing.proofs.PairLaws.{Writing, begins, goes-on, keeps, ends, rowOf, row-one}
 use Rattle.listing.proofs.lines.put_pairs.Statement.{statement}
 use Rattle.listing.proofs.lines.put_pairs.Tie as tie
 
 abbrev Inv-loop : tie.InvT-loop
-Inv-loop bytes₀ at matrix next₀ i₀ bytes next i = Writing (ceiling 1) (λ k. pairsOf 1 (partners 1 matrix k) k) bytes₀ at bytes next i
+Inv-loop bytes₀ at matrix next₀ i₀ bytes next i = Writing (labelCeiling (ours .words)) (rowOf matrix) bytes₀ at bytes next i
 
 abbrev μ-loop : tie.MeasureT-loop
-μ-loop bytes₀ at matrix next₀ i₀ bytes next i = ceiling 1 - i
+μ-loop bytes₀ at matrix next₀ i₀ bytes next i = labelCeiling (ours .words) - i
 
 loop-holds : tie.Need-loop-holds Inv-loop μ-loop
 loop-holds c = begins 0 (omega arith) (λ j h. absurd (omega arith))
@@ -25,12 +23,11 @@ mul-put-row c = omega arith
 shared-slice-read-put-row : tie.Need-shared-slice-read-put-row Inv-loop μ-loop
 shared-slice-read-put-row c = omega arith
 
+cast-t12 : tie.Need-cast-t12 Inv-loop μ-loop
+cast-t12 c = omega arith
+
 put-row-requires : tie.Need-put-row-requires Inv-loop μ-loop
-put-row-requires c κs =
-    let l = c .before .before .before .loop in
-    let s = c .before .before .before .before .before .before in
-    let h = c .before .before .loop-test .taken in
-    (h, rw (row-one (now (s .args .matrix)) (l .i) (omega arith)) at (room (s .pre .1) (l .inv) h))
+put-row-requires c κs = omega arith
 
 add-i : tie.Need-add-i Inv-loop μ-loop
 add-i c = omega arith
@@ -46,7 +43,7 @@ loop-again c =
     goes-on (l .inv) h (rw (row-one (now (s .args .matrix)) (l .i) (omega arith)) (c .before .before .put-row .ensures))
 
 same-length : tie.Need-same-length Inv-loop μ-loop
-same-length c = c .before .loop .inv .size
+same-length c = keeps (c .before .loop .inv)
 
 returns : tie.Need-returns Inv-loop μ-loop
 returns c = ends (c .before .loop .inv) (c .loop-test .left)
@@ -60,6 +57,7 @@ put-pairs-spec =
     loop-holds
     mul-put-row
     shared-slice-read-put-row
+    cast-t12
     put-row-requires
     add-i
     loop-less

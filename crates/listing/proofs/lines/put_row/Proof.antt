@@ -4,28 +4,32 @@ use native.Mathlib.Nat.{le-refl}
 use mathlib.Core.List.{[], _∷_}
 use Prim.Native.Nat.{_-_, _≤_}
 use native.Mathlib.Omega.{arith}
-use Rattle.labels.specs.Sets.{ceiling}
-use Rattle.labels.specs.Matrix.{partners}
+use borrow.Author.Needs.{needs}
+use Rattle.numbers.specs.Sizes.{ours, labelCeiling}
+use Rattle.matrix.specs.Matrix.{partners}
 use Rattle.listing.specs.Pairs.{pairAt}
-use Rattle.listing.proofs.PairLaws.{Writing, begins, room, goes-on, ends, no-pair-below}
+use Rattle.listing.proofs.PairLaws.{Writing, begins, goes-on, keeps, ends, no-pair-below}
 use Rattle.listing.proofs.lines.put_row.Statement.{statement}
 use Rattle.listing.proofs.lines.put_row.Tie as tie
 
 abbrev Inv-loop : tie.InvT-loop
-Inv-loop bytes₀ at partners i next₀ j₀ bytes next j = (i ≤ j) × Writing (ceiling 1) (pairAt (partners ∷ []) i) bytes₀ at bytes next j
+Inv-loop bytes₀ at partners i next₀ j₀ bytes next j = (i .0 ≤ j) × Writing (labelCeiling (ours .words)) (pairAt (partners ∷ []) (i .0)) bytes₀ at bytes next j
 
 abbrev μ-loop : tie.MeasureT-loop
-μ-loop bytes₀ at partners i next₀ j₀ bytes next j = ceiling 1 - j
+μ-loop bytes₀ at partners i next₀ j₀ bytes next j = labelCeiling (ours .words) - j
+
+cast-j : tie.Need-cast-j Inv-loop μ-loop
+cast-j c = search needs
 
 loop-holds : tie.Need-loop-holds Inv-loop μ-loop
 loop-holds c =
-    let a = c .before .args in (le-refl (a .i), begins (a .i) (omega arith) (λ j h. no-pair-below (a .partners ∷ []) (a .i) j h))
+    let a = c .before .before .args in (le-refl (a .i .0), begins (a .i .0) (omega arith) (λ j h. no-pair-below (a .partners ∷ []) (a .i .0) j h))
+
+cast-t10 : tie.Need-cast-t10 Inv-loop μ-loop
+cast-t10 c = omega arith
 
 put-pair-requires : tie.Need-put-pair-requires Inv-loop μ-loop
-put-pair-requires c κs =
-    let l = c .before .before .loop in
-    let h = c .before .loop-test .taken in
-    ((l .inv .0, h), room (c .before .before .before .before .pre .1) (l .inv .1) h)
+put-pair-requires c κs = c .before .before .loop .inv .0
 
 add-j : tie.Need-add-j Inv-loop μ-loop
 add-j c = omega arith
@@ -38,7 +42,7 @@ loop-again c =
     (omega arith, goes-on (c .before .before .before .before .before .loop .inv .1) (c .before .before .before .before .loop-test .taken) (c .before .before .put-pair .ensures))
 
 same-length : tie.Need-same-length Inv-loop μ-loop
-same-length c = c .before .loop .inv .1 .size
+same-length c = keeps (c .before .loop .inv .1)
 
 returns : tie.Need-returns Inv-loop μ-loop
 returns c = ends (c .before .loop .inv .1) (c .loop-test .left)
@@ -49,7 +53,9 @@ put-row-spec =
     (tie.spec
     Inv-loop
     μ-loop
+    cast-j
     loop-holds
+    cast-t10
     put-pair-requires
     add-j
     loop-less

@@ -4,25 +4,33 @@ use native.Mathlib.Nat.{le-refl}
 use mathlib.Core.List.{[], _∷_}
 use Prim.Native.Nat.{_*_, _-_, _≤_}
 use native.Mathlib.Omega.{arith}
-use Rattle.labels.specs.Sets.{ceiling}
-use Rattle.labels.specs.Matrix.{partners}
+use borrow.Author.Needs.{needs}
+use Rattle.numbers.specs.Sizes.{ours, labelCeiling}
+use Rattle.matrix.specs.Matrix.{partners}
 use Rattle.listing.specs.Pairs.{pairAt}
 use Rattle.listing.proofs.PairLaws.{Summing, sum-begins, sum-goes-on, sum-ends, no-pair-below}
 use Rattle.listing.proofs.lines.row_length.Statement.{statement}
 use Rattle.listing.proofs.lines.row_length.Tie as tie
 
 abbrev Inv-loop : tie.InvT-loop
-Inv-loop partners i sum₀ j₀ sum j = (i ≤ j) × Summing (ceiling 1) (pairAt (partners ∷ []) i) sum j × (sum ≤ 42 * j)
+Inv-loop partners i sum₀ j₀ sum j = (i .0 ≤ j) × Summing (labelCeiling (ours .words)) (pairAt (partners ∷ []) (i .0)) sum j × (sum ≤ 42 * j)
 
 abbrev μ-loop : tie.MeasureT-loop
-μ-loop partners i sum₀ j₀ sum j = ceiling 1 - j
+μ-loop partners i sum₀ j₀ sum j = labelCeiling (ours .words) - j
+
+cast-j : tie.Need-cast-j Inv-loop μ-loop
+cast-j c = search needs
 
 loop-holds : tie.Need-loop-holds Inv-loop μ-loop
 loop-holds c =
-    let a = c .args in (le-refl (a .i), sum-begins (a .i) (omega arith) (λ j h. no-pair-below (a .partners ∷ []) (a .i) j h), omega arith)
+    let a = c .before .args in
+    (le-refl (a .i .0), sum-begins (a .i .0) (omega arith) (λ j h. no-pair-below (a .partners ∷ []) (a .i .0) j h), omega arith)
+
+cast-t7 : tie.Need-cast-t7 Inv-loop μ-loop
+cast-t7 c = omega arith
 
 pair-length-requires : tie.Need-pair-length-requires Inv-loop μ-loop
-pair-length-requires c κs = (c .before .loop .inv .0, c .loop-test .taken)
+pair-length-requires c κs = c .before .loop .inv .0
 
 add-sum : tie.Need-add-sum Inv-loop μ-loop
 add-sum c = omega (arith, c .before .before .loop .inv .1 .passed)
@@ -47,7 +55,9 @@ row-length-spec =
     (tie.spec
     Inv-loop
     μ-loop
+    cast-j
     loop-holds
+    cast-t7
     pair-length-requires
     add-sum
     add-j
