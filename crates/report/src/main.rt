@@ -11,7 +11,7 @@ use numbers::ProcNumber;
 use numbers::Refusal;
 use numbers::RowNumber;
 use numbers::SheetSize;
-use sheet::Read;
+use table::Read;
 
 // What reading standard input comes to: so many bytes, or a failure.
 enum Taken {

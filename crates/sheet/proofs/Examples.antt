@@ -3,13 +3,15 @@
 use mathlib.Core.Path.{_≡_, refl}
 use mathlib.Core.List.{List, [], _∷_, _++_}
 use Prim.Native.Nat.{ℕ}
-use Rattle.text.specs.Bytes.{isDigit}
-use Rattle.text.specs.Numbers.{spelledIn, spelled}
-use Rattle.recipe.specs.declared.Row.{Row}
-use Rattle.sheet.specs.Form.{spelledRow, spelledRoot, spell}
+use Rattle.text.specs.Bytes.{ascii, isDigit}
 use Rattle.text.specs.Fields.{textAt, digitsAt, digitsAfter, numberAt}
-use Rattle.sheet.specs.Lines.{kindFrom, rowAt, rootAt, lineAt}
-use Rattle.sheet.specs.Reading.{table, wrongForm, noRoom, readRoots, readRows, readSheet}
+use Rattle.text.specs.Numbers.{spelledIn, spelled}
+use Rattle.numbers.specs.Sizes.{ours}
+use Rattle.recipe.specs.declared.Row.{Row}
+use Rattle.table.specs.Reading.{table, refused}
+use Rattle.sheet.specs.Form.{spelledRow, spelledRoot, spell}
+use Rattle.sheet.specs.Lines.{keywordFrom, rowLineAt, rootLineAt, lineAt}
+use Rattle.sheet.specs.Reading.{wrongForm, noRoom, stepOf, readLines, readSheet}
 
 -- `R`, `step`, 5 and 0; then `P` and 0
 rowOf5 : List ℕ
@@ -25,38 +27,38 @@ spells-a-table : spell (step5 ∷ []) (0 ∷ []) ≡ rowOf5 ++ rootOf0
 unfolding spell mathlib.Core.List.flatMap spelledRow spelledRoot spelled spelledIn rowOf5 rootOf0 step5
 spells-a-table = refl
 
-reads-a-table : readSheet 1 1 (rowOf5 ++ rootOf0) ≡ table (step5 ∷ []) (0 ∷ [])
-unfolding readSheet readRows readRoots lineAt rowAt rootAt textAt kindFrom numberAt digitsAt digitsAfter isDigit rowOf5 rootOf0 step5
+reads-a-table : readSheet ours 1 1 (rowOf5 ++ rootOf0) ≡ table (step5 ∷ []) (0 ∷ [])
+unfolding readSheet readLines stepOf lineAt rowLineAt rootLineAt textAt keywordFrom numberAt digitsAt digitsAfter isDigit rowOf5 rootOf0 step5
 reads-a-table = refl
 
-reads-nothing : readSheet 0 0 [] ≡ table [] []
-unfolding readSheet readRows lineAt
+reads-nothing : readSheet ours 0 0 [] ≡ table [] []
+unfolding readSheet readLines stepOf lineAt
 reads-nothing = refl
 
 -- One row more than there is room for, though the line after it is wrong.
-no-room-decides : readSheet 1 1 (rowOf5 ++ (rowOf5 ++ (13 ∷ []))) ≡ noRoom 1
-unfolding readSheet readRows lineAt rowAt textAt kindFrom numberAt digitsAt digitsAfter isDigit rowOf5
+no-room-decides : readSheet ours 1 1 (rowOf5 ++ (rowOf5 ++ (13 ∷ []))) ≡ refused (noRoom 1)
+unfolding readSheet readLines stepOf lineAt rowLineAt textAt keywordFrom numberAt digitsAt digitsAfter isDigit rowOf5
 no-room-decides = refl
 
 -- A row after a procedure is wrong, though the rows are full.
-late-row-is-wrong : readSheet 1 1 (rowOf5 ++ (rootOf0 ++ rowOf5)) ≡ wrongForm 2
-unfolding readSheet readRows readRoots lineAt rowAt rootAt textAt kindFrom numberAt digitsAt digitsAfter isDigit rowOf5 rootOf0
+late-row-is-wrong : readSheet ours 1 1 (rowOf5 ++ (rootOf0 ++ rowOf5)) ≡ refused (wrongForm 2)
+unfolding readSheet readLines stepOf lineAt rowLineAt rootLineAt textAt keywordFrom numberAt digitsAt digitsAfter isDigit rowOf5 rootOf0
 late-row-is-wrong = refl
 
 -- A last line without its newline is wrong, though it would be one row too many.
-open-line-is-wrong : readSheet 1 1 (rowOf5 ++ (82 ∷ 9 ∷ 115 ∷ 116 ∷ 101 ∷ 112 ∷ 9 ∷ 53 ∷ 9 ∷ 48 ∷ [])) ≡ wrongForm 1
-unfolding readSheet readRows lineAt rowAt textAt kindFrom numberAt digitsAt digitsAfter isDigit rowOf5
+open-line-is-wrong : readSheet ours 1 1 (rowOf5 ++ (82 ∷ 9 ∷ 115 ∷ 116 ∷ 101 ∷ 112 ∷ 9 ∷ 53 ∷ 9 ∷ 48 ∷ [])) ≡ refused (wrongForm 1)
+unfolding readSheet readLines stepOf lineAt rowLineAt textAt keywordFrom numberAt digitsAt digitsAfter isDigit rowOf5
 open-line-is-wrong = refl
 
 -- `P` and 00, and `P` and five digits.
-leading-zero-is-wrong : readSheet 1 1 (80 ∷ 9 ∷ 48 ∷ 48 ∷ 10 ∷ []) ≡ wrongForm 0
-unfolding readSheet readRows lineAt rootAt textAt numberAt digitsAt digitsAfter isDigit
+leading-zero-is-wrong : readSheet ours 1 1 (80 ∷ 9 ∷ 48 ∷ 48 ∷ 10 ∷ []) ≡ refused (wrongForm 0)
+unfolding readSheet readLines stepOf lineAt rootLineAt textAt numberAt digitsAt digitsAfter isDigit
 leading-zero-is-wrong = refl
 
-five-digits-are-wrong : readSheet 1 1 (80 ∷ 9 ∷ 49 ∷ 48 ∷ 48 ∷ 48 ∷ 48 ∷ 10 ∷ []) ≡ wrongForm 0
-unfolding readSheet readRows lineAt rootAt textAt numberAt digitsAt digitsAfter isDigit
+five-digits-are-wrong : readSheet ours 1 1 (80 ∷ 9 ∷ 49 ∷ 48 ∷ 48 ∷ 48 ∷ 48 ∷ 10 ∷ []) ≡ refused (wrongForm 0)
+unfolding readSheet readLines stepOf lineAt rootLineAt textAt numberAt digitsAt digitsAfter isDigit
 five-digits-are-wrong = refl
 
-four-digits-are-read : readSheet 1 1 (80 ∷ 9 ∷ 57 ∷ 57 ∷ 57 ∷ 57 ∷ 10 ∷ []) ≡ table [] (9999 ∷ [])
-unfolding readSheet readRows readRoots lineAt rootAt textAt numberAt digitsAt digitsAfter isDigit
+four-digits-are-read : readSheet ours 1 1 (80 ∷ 9 ∷ 57 ∷ 57 ∷ 57 ∷ 57 ∷ 10 ∷ []) ≡ table [] (9999 ∷ [])
+unfolding readSheet readLines stepOf lineAt rootLineAt textAt numberAt digitsAt digitsAfter isDigit
 four-digits-are-read = refl

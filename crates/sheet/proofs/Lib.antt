@@ -1,15 +1,10 @@
-pub mod FieldLaws
+pub mod KeywordLaws
 pub mod LineLaws
-pub mod FieldForms
 pub mod LineForms
-pub mod ReadingLaws
+pub mod StepLaws
 pub mod Keeping
-pub mod Holdings
-pub mod Laying
-pub mod EveryReading
-pub mod Within
+pub mod Outcomes
 pub mod SheetForms
-pub mod Places
 pub mod Unique
 pub mod Stored
 mod Examples

@@ -1,23 +1,24 @@
 -- A line is read exactly where it is spelled: field by field, each read exactly where it is spelled.
 -- Assumes nothing.
-use mathlib.Core.Path.{_≡_, refl, sym, ap, _∙_}
+use mathlib.Core.Path.{_≡_, refl, sym, ap, ap₂, _∙_, subst}
 use mathlib.Core.List.{List, [], _∷_, _++_, append-assoc}
-use Prim.Native.Nat.{ℕ}
+use Prim.Native.Nat.{ℕ, _≤_, _<_}
 use native.Mathlib.Omega.{arith}
+use lib.ListN.{length, length-append}
 use Rattle.recipe.specs.declared.Row.{Row}
 use Rattle.text.specs.Bytes.{tab, newline}
 use Rattle.text.proofs.DigitLaws.{tab-no-digit, newline-no-digit}
 use Rattle.text.specs.Numbers.{spelled}
-use Rattle.sheet.specs.Form.{word, rowMark, rootMark, spelledRow, spelledRoot, Short, ShortRow}
 use Rattle.text.specs.Fields.{Field, holds, broken, textAt, numberAt}
 use Rattle.text.proofs.FieldForms.{text-read, number-read, number-reads}
-use Rattle.sheet.specs.Lines.{kindAt, noLine, rowLine, rootLine, wrongLine, rowAt, rootAt, lineAt}
-use Rattle.sheet.proofs.FieldForms.{kind-word, kind-small, kind-reads}
-use Rattle.sheet.proofs.LineLaws.{no-kind, no-x, no-y, row-read, no-root, root-read, row-marked, root-marked, unmarked}
+use Rattle.sheet.specs.Form.{keyword, spelledRow, spelledRoot, Short, ShortRow}
+use Rattle.sheet.specs.Lines.{rowMark, rootMark, keywordAt, noLine, rowLine, rootLine, wrongLine, rowLineAt, rootLineAt, lineAt}
+use Rattle.sheet.proofs.KeywordLaws.{kind-small, keyword-read, keyword-reads}
+use Rattle.sheet.proofs.LineLaws.{no-keyword, no-x, no-y, row-read, no-root, root-read, row-marked, root-marked, unmarked}
 
 -- What follows the mark of a row line.
 fields : Row → List ℕ → List ℕ
-fields row t = (word (row .kind) ++ (tab ∷ [])) ++ (spelled (row .x) ++ (tab ∷ (spelled (row .y) ++ (newline ∷ t))))
+fields row t = (keyword (row .kind) ++ (tab ∷ [])) ++ (spelled (row .x) ++ (tab ∷ (spelled (row .y) ++ (newline ∷ t))))
 
 row-line : (row : Row) (t : List ℕ) → spelledRow row ++ t ≡ 82 ∷ tab ∷ fields row t
 unfolding spelledRow fields
@@ -33,7 +34,7 @@ unfolding lineAt textAt fields
 row-line-reads row t h =
     ap lineAt (row-line row t)
     ∙ sym
-    (row-read (fields row t) (row .kind) _ (sym (kind-reads (row .kind) _ (h .kind)))
+    (row-read (fields row t) (row .kind) _ (sym (keyword-reads (row .kind) _ (h .kind)))
     (row .x) _ (sym (number-reads tab tab-no-digit (row .x) _ (h .x)))
     (row .y) t (sym (number-reads newline newline-no-digit (row .y) t (h .y))))
 
@@ -45,43 +46,43 @@ root-line-reads root t h =
 
 together :
     (k x y : ℕ) (t : List ℕ)
-    → (word k ++ (tab ∷ [])) ++ (spelled x ++ (tab ∷ (spelled y ++ (newline ∷ t)))) ≡ fields (record { kind = k; x = x; y = y }) t
+    → (keyword k ++ (tab ∷ [])) ++ (spelled x ++ (tab ∷ (spelled y ++ (newline ∷ t)))) ≡ fields (record { kind = k; x = x; y = y }) t
 unfolding fields
 together k x y t = refl
 
 -- Read, hence spelled.
 -- What follows a row's mark is a row's fields or is wrong.
 data RowFields (s : List ℕ) : Type 0 where
-  row-fields : (row : Row) (t : List ℕ) → s ≡ fields row t → ShortRow row → rowAt s ≡ rowLine row t → RowFields s
-  wrong-row : rowAt s ≡ wrongLine → RowFields s
+  row-fields : (row : Row) (t : List ℕ) → s ≡ fields row t → ShortRow row → rowLineAt s ≡ rowLine row t → RowFields s
+  wrong-row : rowLineAt s ≡ wrongLine → RowFields s
 
 row-fields-of : (s : List ℕ) → RowFields s
-row-fields-of s = by-kind (kindAt s) refl
+row-fields-of s = by-kind (keywordAt s) refl
   where
     by-y :
-        (k x : ℕ) (s₁ s₂ : List ℕ) → holds k s₁ ≡ kindAt s → holds x s₂ ≡ numberAt tab s₁
+        (k x : ℕ) (s₁ s₂ : List ℕ) → holds k s₁ ≡ keywordAt s → holds x s₂ ≡ numberAt tab s₁
         → (f : Field) → numberAt newline s₂ ≡ f → RowFields s
     by-y k x s₁ s₂ a b broken h = wrong-row (sym (no-y s k s₁ a x s₂ b (sym h)))
     by-y k x s₁ s₂ a b (holds y t) h =
         let px = number-read tab s₁ (sym b) in
         let py = number-read newline s₂ h in
         row-fields (record { kind = k; x = x; y = y }) t
-        (kind-word s a ∙ ap (_++_ (word k ++ (tab ∷ []))) (px .0 ∙ ap (λ (u : List ℕ). spelled x ++ (tab ∷ u)) (py .0)) ∙ together k x y t)
+        (keyword-read s a ∙ ap (_++_ (keyword k ++ (tab ∷ []))) (px .0 ∙ ap (λ (u : List ℕ). spelled x ++ (tab ∷ u)) (py .0)) ∙ together k x y t)
         (record { kind = kind-small s a; x = omega (arith, px .1); y = omega (arith, py .1) })
         (sym (row-read s k s₁ a x s₂ b y t (sym h)))
 
-    by-x : (k : ℕ) (s₁ : List ℕ) → holds k s₁ ≡ kindAt s → (f : Field) → numberAt tab s₁ ≡ f → RowFields s
+    by-x : (k : ℕ) (s₁ : List ℕ) → holds k s₁ ≡ keywordAt s → (f : Field) → numberAt tab s₁ ≡ f → RowFields s
     by-x k s₁ a broken h = wrong-row (sym (no-x s k s₁ a (sym h)))
     by-x k s₁ a (holds x s₂) h = by-y k x s₁ s₂ a (sym h) (numberAt newline s₂) refl
 
-    by-kind : (f : Field) → kindAt s ≡ f → RowFields s
-    by-kind broken h = wrong-row (sym (no-kind s (sym h)))
+    by-kind : (f : Field) → keywordAt s ≡ f → RowFields s
+    by-kind broken h = wrong-row (sym (no-keyword s (sym h)))
     by-kind (holds k s₁) h = by-x k s₁ (sym h) (numberAt tab s₁) refl
 
 -- What follows a procedure's mark is its root or is wrong.
 data RootField (s : List ℕ) : Type 0 where
-  root-field : (root : ℕ) (t : List ℕ) → s ≡ spelled root ++ (newline ∷ t) → Short root → rootAt s ≡ rootLine root t → RootField s
-  wrong-root : rootAt s ≡ wrongLine → RootField s
+  root-field : (root : ℕ) (t : List ℕ) → s ≡ spelled root ++ (newline ∷ t) → Short root → rootLineAt s ≡ rootLine root t → RootField s
+  wrong-root : rootLineAt s ≡ wrongLine → RootField s
 
 root-field-of : (s : List ℕ) → RootField s
 root-field-of s = by-root (numberAt newline s) refl
@@ -92,22 +93,22 @@ root-field-of s = by-root (numberAt newline s) refl
         let p = number-read newline s h in root-field root t (p .0) (omega (arith, p .1)) (sym (root-read s root t (sym h)))
 
 -- What stands at the front: nothing, a row or a root as it is spelled, or a wrong line.
-pub data Front (s : List ℕ) : Type 0 where
+data Front (s : List ℕ) : Type 0 where
   nothing : s ≡ [] → lineAt s ≡ noLine → Front s
   a-row : (row : Row) (t : List ℕ) → s ≡ spelledRow row ++ t → ShortRow row → lineAt s ≡ rowLine row t → Front s
   a-root : (root : ℕ) (t : List ℕ) → s ≡ spelledRoot root ++ t → Short root → lineAt s ≡ rootLine root t → Front s
   wrong : lineAt s ≡ wrongLine → Front s
 
-pub front : (s : List ℕ) → Front s
+front : (s : List ℕ) → Front s
 unfolding lineAt
 front [] = nothing refl refl
 front (b ∷ s) = by-mark (textAt rowMark 0 (b ∷ s)) refl (textAt rootMark 0 (b ∷ s)) refl
   where
-    by-row : (t : List ℕ) → b ∷ s ≡ rowMark ++ t → lineAt (b ∷ s) ≡ rowAt t → RowFields t → Front (b ∷ s)
+    by-row : (t : List ℕ) → b ∷ s ≡ rowMark ++ t → lineAt (b ∷ s) ≡ rowLineAt t → RowFields t → Front (b ∷ s)
     by-row t e l (row-fields row u f h g) = a-row row u (e ∙ ap (_++_ rowMark) f ∙ sym (row-line row u)) h (l ∙ g)
     by-row t e l (wrong-row g) = wrong (l ∙ g)
 
-    by-root : (t : List ℕ) → b ∷ s ≡ rootMark ++ t → lineAt (b ∷ s) ≡ rootAt t → RootField t → Front (b ∷ s)
+    by-root : (t : List ℕ) → b ∷ s ≡ rootMark ++ t → lineAt (b ∷ s) ≡ rootLineAt t → RootField t → Front (b ∷ s)
     by-root t e l (root-field root u f h g) = a-root root u (e ∙ ap (_++_ rootMark) f ∙ sym (root-line root u)) h (l ∙ g)
     by-root t e l (wrong-root g) = wrong (l ∙ g)
 
@@ -117,3 +118,56 @@ front (b ∷ s) = by-mark (textAt rowMark 0 (b ∷ s)) refl (textAt rootMark 0 (
     by-mark broken h (holds n t) k =
         by-root t (text-read rootMark 0 (b ∷ s) k .1) (sym (root-marked b s (sym h) (sym k))) (root-field-of t)
     by-mark broken h broken k = wrong (sym (unmarked b s (sym h) (sym k)))
+
+-- So each line that is read stands there as it is spelled.
+pub row-spelled : (s : List ℕ) {row : Row} {t : List ℕ} → lineAt s ≡ rowLine row t → (s ≡ spelledRow row ++ t) × ShortRow row
+row-spelled s {row} {t} l = by-front (front s)
+  where
+    by-front : Front s → (s ≡ spelledRow row ++ t) × ShortRow row
+    by-front (nothing e k) = let z : _≡_ {A = ℕ} 0 1 = cc in absurd (omega arith)
+    by-front (a-row other u e h k) =
+        let same : other ≡ row = cc in
+        let rest : u ≡ t = cc in (
+          e ∙ ap₂ (λ (r : Row) (v : List ℕ). spelledRow r ++ v) same rest,
+          subst ShortRow same h,
+        )
+    by-front (a-root root u e h k) = let z : _≡_ {A = ℕ} 0 1 = cc in absurd (omega arith)
+    by-front (wrong k) = let z : _≡_ {A = ℕ} 0 1 = cc in absurd (omega arith)
+
+pub root-spelled : (s : List ℕ) {root : ℕ} {t : List ℕ} → lineAt s ≡ rootLine root t → (s ≡ spelledRoot root ++ t) × Short root
+root-spelled s {root} {t} l = by-front (front s)
+  where
+    by-front : Front s → (s ≡ spelledRoot root ++ t) × Short root
+    by-front (nothing e k) = let z : _≡_ {A = ℕ} 0 1 = cc in absurd (omega arith)
+    by-front (a-row row u e h k) = let z : _≡_ {A = ℕ} 0 1 = cc in absurd (omega arith)
+    by-front (a-root other u e h k) =
+        let same : other ≡ root = cc in
+        let rest : u ≡ t = cc in (
+          e ∙ ap₂ (λ (r : ℕ) (v : List ℕ). spelledRoot r ++ v) same rest,
+          subst Short same h,
+        )
+    by-front (wrong k) = let z : _≡_ {A = ℕ} 0 1 = cc in absurd (omega arith)
+
+pub end-spelled : (s : List ℕ) → lineAt s ≡ noLine → s ≡ []
+end-spelled s l = by-front (front s)
+  where
+    by-front : Front s → s ≡ []
+    by-front (nothing e k) = e
+    by-front (a-row row u e h k) = let z : _≡_ {A = ℕ} 0 1 = cc in absurd (omega arith)
+    by-front (a-root root u e h k) = let z : _≡_ {A = ℕ} 0 1 = cc in absurd (omega arith)
+    by-front (wrong k) = let z : _≡_ {A = ℕ} 0 1 = cc in absurd (omega arith)
+
+-- And leaves fewer bytes.
+some-row : (row : Row) → 1 ≤ length (spelledRow row)
+unfolding spelledRow
+some-row row = omega arith
+
+some-root : (root : ℕ) → 1 ≤ length (spelledRoot root)
+unfolding spelledRoot
+some-root root = omega arith
+
+pub row-shorter : (s : List ℕ) {row : Row} {t : List ℕ} → lineAt s ≡ rowLine row t → length t < length s
+row-shorter s {row} {t} l = omega (arith, some-row row, ap length (row-spelled s l .0), length-append (spelledRow row) t)
+
+pub root-shorter : (s : List ℕ) {root : ℕ} {t : List ℕ} → lineAt s ≡ rootLine root t → length t < length s
+root-shorter s {root} {t} l = omega (arith, some-root root, ap length (root-spelled s l .0), length-append (spelledRoot root) t)

@@ -1,148 +1,172 @@
--- The reader accepts exactly the sheets of the form: line by line, each read exactly where it is spelled, rows before roots.
+-- The reader accepts exactly the sheets of the form, and refuses any other where it first offends: the outcome of its lines is the outcome of the sheet.
 -- Assumes nothing.
 use mathlib.Core.Path.{_≡_, refl, sym, ap, _∙_, subst}
 use mathlib.Core.Logic.{_↔_}
-use mathlib.Core.List.{List, [], _∷_, _++_, flatMap, append-assoc}
-use Prim.Native.Nat.{ℕ, zero, suc, _+_, _≤_, min}
+use mathlib.Core.List.{List, [], _∷_, _++_, append-assoc, append-nil}
+use Prim.Native.Nat.{ℕ, _+_, _-_, _≤_, min}
 use native.Mathlib.Decide.{decLe}
 use native.Mathlib.Omega.{arith}
-use lib.ListN.{length}
-use Rattle.numbers.specs.Ceilings.{rowCeiling, procCeiling, sheetCeiling}
+use lib.ListN.{length, length-append}
+use Rattle.numbers.specs.Sizes.{Size, rowCeiling, sheetCeiling}
+use Rattle.numbers.specs.declared.Refusal.{Refusal}
 use Rattle.numbers.specs.declared.Refusal.the-variants.{LongSheet}
 use Rattle.recipe.specs.declared.Row.{Row}
+use Rattle.table.specs.Reading.{Reading, table, refused, rowsOf, rootsOf}
 use Rattle.sheet.specs.Form.{spelledRow, spelledRoot, spell, Short, ShortRow, Every, Holdable}
-use Rattle.sheet.specs.Lines.{lineAt}
-use Rattle.sheet.specs.Reading.{Reading, table, refused, withRow, withRoot, readRoots, readRows, readSheet}
-use Rattle.sheet.proofs.LineForms.{row-line-reads, root-line-reads}
-use Rattle.sheet.proofs.EveryReading.{every-roots-reading, every-reading}
+use Rattle.sheet.specs.Lines.{lineAt, rowLine, rootLine}
+use Rattle.sheet.specs.Reading.{Step, keepRow, keepRoot, stepOf, afterStep, readLines, readSheet}
+use Rattle.sheet.specs.Offences.{Offence}
+use Rattle.sheet.proofs.LineForms.{row-line-reads, root-line-reads, row-shorter, root-shorter}
 use Rattle.sheet.proofs.LineLaws.{no-bytes}
-use Rattle.sheet.proofs.ReadingLaws.{roots-end, roots-next, rows-end, rows-root, rows-next, sheet-too-long, sheet-opened}
-use Rattle.sheet.proofs.Within.{Within, sheet-within}
+use Rattle.sheet.proofs.Outcomes.{spell-row, spell-root, spell-nothing, Reached, Outcome, spelled-whole, offended, outcome}
+use Rattle.sheet.proofs.StepLaws.{row-is-kept, root-is-kept, reads-on, sheet-too-long, sheet-opened}
 
-pub spell-row : (row : Row) (rows : List Row) (roots : List ℕ) → spell (row ∷ rows) roots ≡ spelledRow row ++ spell rows roots
-unfolding spell flatMap
-spell-row row rows roots = append-assoc (spelledRow row) (flatMap spelledRow rows) (flatMap spelledRoot roots)
+-- What the outcome says of a table and of a refusal.
+whole-of :
+    {R P : ℕ} {bytes : List ℕ} {w : Reading} {rows : List Row} {roots : List ℕ} → Outcome R P bytes w → w ≡ table rows roots
+    → Reached R P bytes rows roots []
+whole-of {R} {P} {bytes} {rows = rows} {roots = roots} (spelled-whole {rows = rs} {roots = qs} r) e =
+    let same : rs ≡ rows = cc in
+    let same-roots : qs ≡ roots = cc in
+    subst (λ (l : List Row). Reached R P bytes l roots []) same (subst (λ (l : List ℕ). Reached R P bytes rs l []) same-roots r)
+whole-of (offended o) e = let z : _≡_ {A = ℕ} 0 1 = cc in absurd (omega arith)
 
-pub spell-root : (root : ℕ) (roots : List ℕ) → spell [] (root ∷ roots) ≡ spelledRoot root ++ spell [] roots
-unfolding spell flatMap
-spell-root root roots = refl
+offence-of : {R P : ℕ} {bytes : List ℕ} {w : Reading} {why : Refusal} → Outcome R P bytes w → w ≡ refused why → Offence R P bytes why
+offence-of (spelled-whole r) e = let z : _≡_ {A = ℕ} 0 1 = cc in absurd (omega arith)
+offence-of {R} {P} {bytes} {why = why} (offended {why = other} o) e = let same : other ≡ why = cc in subst (Offence R P bytes) same o
 
-pub spell-nothing : spell [] [] ≡ []
-unfolding spell flatMap
-spell-nothing = refl
+-- A reading takes at most so many places.
+pub record Within (rowRoom rootRoom : ℕ) (w : Reading) : Type 0 where
+  pub rows : length (rowsOf w) ≤ rowRoom
+  pub roots : length (rootsOf w) ≤ rootRoom
 
--- What a reading says of the bytes: a table is spelled by them, with short numbers. A refusal says nothing here.
-Spells : List ℕ → Reading → Type 0
-Spells s (table rows roots) = (spell rows roots ≡ s) × Every ShortRow rows × Every Short roots
-Spells s (refused why) = Unit
+within : {R P : ℕ} {bytes : List ℕ} (w : Reading) → Outcome R P bytes w → Within R P w
+within (table rows roots) (spelled-whole r) = record { rows = r .rowsFit; roots = r .rootsFit }
+within (refused why) o = record { rows = omega arith; roots = omega arith }
 
--- The same of procedure lines alone.
-SpellsRoots : List ℕ → Reading → Type 0
-SpellsRoots s (table rows roots) = (rows ≡ []) × (spell [] roots ≡ s) × Every Short roots
-SpellsRoots s (refused why) = Unit
+module _ (z : Size) (rowsLent rootsLent : ℕ) where
+  abbrev rowRoom : ℕ
+  rowRoom = min rowCeiling rowsLent
 
-roots-alone : (s : List ℕ) (w : Reading) → SpellsRoots s w → Spells s w
-unfolding Spells SpellsRoots
-roots-alone s (table rows roots) p =
-    subst (λ (l : List Row). (spell l roots ≡ s) × Every ShortRow l × Every Short roots) (sym (p .0)) (p .1, tt, p .2)
-roots-alone s (refused why) p = tt
+  abbrev rootRoom : ℕ
+  rootRoom = min (z .procs) rootsLent
 
-root-before :
-    (s t : List ℕ) (root : ℕ) (w : Reading) → s ≡ spelledRoot root ++ t → Short root → SpellsRoots t w → SpellsRoots s (withRoot root w)
-unfolding SpellsRoots
-root-before s t root (table rows roots) e h p =
-    (p .0, spell-root root roots ∙ ap (_++_ (spelledRoot root)) (p .1) ∙ sym e, (h, p .2))
-root-before s t root (refused why) e h p = tt
+  -- A sheet that is not too long comes to what its lines come to.
+  sheet-outcome : (bytes : List ℕ) → length bytes ≤ sheetCeiling → Outcome rowRoom rootRoom bytes (readSheet z rowsLent rootsLent bytes)
+  sheet-outcome bytes h =
+      rw (sheet-opened z rowsLent rootsLent bytes h refl refl)
+      (outcome rowRoom rootRoom bytes (length bytes) [] [] bytes (omega arith)
+      (record {
+        spelled = sym (ap (λ (s : List ℕ). s ++ bytes) spell-nothing);
+        rowsShort = tt;
+        rootsShort = tt;
+        rowsFit = omega arith;
+        rootsFit = omega arith;
+      }))
 
-row-before :
-    (s t : List ℕ) (row : Row) (w : Reading) → s ≡ spelledRow row ++ t → ShortRow row → Spells t w → Spells s (withRow row w)
-unfolding Spells
-row-before s t row (table rows roots) e h p =
-    (spell-row row rows roots ∙ ap (_++_ (spelledRow row)) (p .0) ∙ sym e, (h, p .1), p .2)
-row-before s t row (refused why) e h p = tt
+  pub sheet-within : (bytes : List ℕ) → Within rowRoom rootRoom (readSheet z rowsLent rootsLent bytes)
+  sheet-within bytes = by-size (decLe (length bytes) sheetCeiling)
+    where
+      by-size : Dec (length bytes ≤ sheetCeiling) → Within rowRoom rootRoom (readSheet z rowsLent rootsLent bytes)
+      by-size (yes h) = within (readSheet z rowsLent rootsLent bytes) (sheet-outcome bytes h)
+      by-size (no h) =
+          rw (sheet-too-long z rowsLent rootsLent bytes (omega arith)) (record { rows = omega arith; roots = omega arith })
 
-roots-spelled : (P i : ℕ) (s : List ℕ) → SpellsRoots s (readRoots P i s)
-unfolding SpellsRoots
-roots-spelled =
-    every-roots-reading (λ P i s w. SpellsRoots s w)
-    (λ P i s e. (refl, spell-nothing ∙ sym e, tt))
-    (λ P i s l. tt)
-    (λ P i s row t l. tt)
-    (λ i s root t l. tt)
-    (λ P i s t root w e h p. root-before s t root w e h p)
+  -- Whatever is read spells the sheet back byte for byte, and is a table that a sheet can hold.
+  pub read-is-spelled :
+      (bytes : List ℕ) (rows : List Row) (roots : List ℕ) → readSheet z rowsLent rootsLent bytes ≡ table rows roots
+      → (spell rows roots ≡ bytes) × Holdable z rowsLent rootsLent rows roots
+  read-is-spelled bytes rows roots e = by-size (decLe (length bytes) sheetCeiling)
+    where
+      by-size : Dec (length bytes ≤ sheetCeiling) → (spell rows roots ≡ bytes) × Holdable z rowsLent rootsLent rows roots
+      by-size (yes h) =
+          let r = whole-of (sheet-outcome bytes h) e in
+          let same : spell rows roots ≡ bytes = sym (r .spelled ∙ append-nil (spell rows roots)) in (
+            same,
+            record {
+              rowsShort = r .rowsShort;
+              rootsShort = r .rootsShort;
+              rowsFit = r .rowsFit;
+              rootsFit = r .rootsFit;
+              sheetFits = subst (λ (s : List ℕ). length s ≤ sheetCeiling) (sym same) h;
+            },
+          )
+      by-size (no h) =
+          let w : refused LongSheet ≡ table rows roots = sym (sheet-too-long z rowsLent rootsLent bytes (omega arith)) ∙ e in
+          let none : _≡_ {A = ℕ} 0 1 = cc in
+          absurd (omega arith)
 
-rows-spelled : (P R i : ℕ) (s : List ℕ) → Spells s (readRows P R i s)
-unfolding Spells
-rows-spelled P =
-    every-reading P (λ R i s w. Spells s w)
-    (λ R i s e. (spell-nothing ∙ sym e, tt, tt))
-    (λ R i s l. tt)
-    (λ R i s root t l. roots-alone s (readRoots P i s) (roots-spelled P i s))
-    (λ i s row t l. tt)
-    (λ R i s t row w e h p. row-before s t row w e h p)
+  -- Whatever sheet is short enough and refused is refused at its first line that offends, and for how that line offends.
+  pub refused-where-it-offends :
+      (bytes : List ℕ) (why : Refusal) → length bytes ≤ sheetCeiling → readSheet z rowsLent rootsLent bytes ≡ refused why
+      → Offence rowRoom rootRoom bytes why
+  refused-where-it-offends bytes why h e = offence-of (sheet-outcome bytes h) e
 
--- Whatever is read spells the sheet back byte for byte, and is a table that a sheet can hold.
-pub read-is-spelled :
-    (rowPlaces rootPlaces : ℕ) (bytes : List ℕ) (rows : List Row) (roots : List ℕ)
-    → readSheet rowPlaces rootPlaces bytes ≡ table rows roots
-    → (spell rows roots ≡ bytes) × Holdable rowPlaces rootPlaces rows roots
-unfolding Spells
-read-is-spelled rowPlaces rootPlaces bytes rows roots e = by-size (decLe (length bytes) sheetCeiling)
-  where
-    by-size : Dec (length bytes ≤ sheetCeiling) → (spell rows roots ≡ bytes) × Holdable rowPlaces rootPlaces rows roots
-    by-size (yes h) =
-        let opened = sheet-opened rowPlaces rootPlaces bytes h refl refl in
-        let p : Spells bytes (table rows roots) =
-        subst (Spells bytes) (sym opened ∙ e) (rows-spelled (min procCeiling rootPlaces) (min rowCeiling rowPlaces) 0 bytes) in
-        let room = subst (Within (min rowCeiling rowPlaces) (min procCeiling rootPlaces)) e (sheet-within rowPlaces rootPlaces bytes) in (
-          p .0,
-          record {
-            rowsShort = p .1;
-            rootsShort = p .2;
-            rowsFit = room .rows;
-            rootsFit = room .roots;
-            sheetFits = subst (λ (s : List ℕ). length s ≤ sheetCeiling) (sym (p .0)) h;
-          },
-        )
-    by-size (no h) =
-        let w : refused LongSheet ≡ table rows roots = sym (sheet-too-long rowPlaces rootPlaces bytes (omega arith)) ∙ e in
-        let z : _≡_ {A = ℕ} 0 1 = cc in
-        absurd (omega arith)
+-- Reading on through what is spelled.
+module _ (R P : ℕ) where
+  steps-on :
+      (k : ℕ) (rows : List Row) (roots s : List ℕ) (step : Step) → length s ≤ k
+      → stepOf R P (length rows) (length roots) (lineAt s) ≡ step
+      → readLines R P k rows roots s ≡ afterStep (readLines R P (k - 1)) rows roots step
+  steps-on k rows roots s step h e = reads-on R P k rows roots s h ∙ ap (afterStep (readLines R P (k - 1)) rows roots) e
 
-roots-read : (P i : ℕ) (roots : List ℕ) → Every Short roots → length roots ≤ P → readRoots P i (spell [] roots) ≡ table [] roots
-roots-read P i [] a h = ap (readRoots P i) spell-nothing ∙ roots-end i [] P no-bytes
-roots-read zero i (root ∷ roots) a h = absurd (omega arith)
-roots-read (suc P) i (root ∷ roots) a h =
-    ap (readRoots (suc P) i) (spell-root root roots)
-    ∙ roots-next i (spelledRoot root ++ spell [] roots) P (root-line-reads root (spell [] roots) (a .0))
-    ∙ ap (withRoot root) (roots-read P (i + 1) roots (a .1) (omega arith))
+  at-end : (k : ℕ) (rows : List Row) (roots : List ℕ) → readLines R P k rows roots (spell [] []) ≡ table rows roots
+  unfolding stepOf
+  at-end k rows roots =
+      ap (readLines R P k rows roots) spell-nothing
+      ∙ steps-on k rows roots [] _ (omega arith) (ap (stepOf R P (length rows) (length roots)) no-bytes)
 
-rows-read :
-    (P R i : ℕ) (rows : List Row) (roots : List ℕ) → Every ShortRow rows → Every Short roots → length rows ≤ R → length roots ≤ P
-    → readRows P R i (spell rows roots) ≡ table rows roots
-rows-read P R i [] [] a b h g = ap (readRows P R i) spell-nothing ∙ rows-end i [] P R no-bytes
-rows-read P R i [] (root ∷ roots) a b h g =
-    rows-root i (spell [] (root ∷ roots)) P R (ap lineAt (spell-root root roots) ∙ root-line-reads root (spell [] roots) (b .0))
-    ∙ roots-read P i (root ∷ roots) b g
-rows-read P zero i (row ∷ rows) roots a b h g = absurd (omega arith)
-rows-read P (suc R) i (row ∷ rows) roots a b h g =
-    ap (readRows P (suc R) i) (spell-row row rows roots)
-    ∙ rows-next i (spelledRow row ++ spell rows roots) P R (row-line-reads row (spell rows roots) (a .0))
-    ∙ ap (withRow row) (rows-read P R (i + 1) rows roots (a .1) b (omega arith) g)
+  roots-read :
+      (k : ℕ) (rows : List Row) (roots new : List ℕ) → Every Short new → length roots + length new ≤ P → length (spell [] new) ≤ k
+      → readLines R P k rows roots (spell [] new) ≡ table rows (roots ++ new)
+  roots-read k rows roots [] a h g = at-end k rows roots ∙ ap (table rows) (sym (append-nil roots))
+  roots-read k rows roots (root ∷ new) a h g =
+      ap (readLines R P k rows roots) (spell-root root new)
+      ∙ steps-on k rows roots (spelledRoot root ++ spell [] new) (keepRoot root (spell [] new)) fits
+      (ap (stepOf R P (length rows) (length roots)) line ∙ root-is-kept R P (length rows) (length roots) root (spell [] new) (omega arith))
+      ∙ roots-read (k - 1) rows (roots ++ (root ∷ [])) new (a .1) (omega (arith, length-append roots (root ∷ [])))
+      (omega (arith, fits, root-shorter (spelledRoot root ++ spell [] new) line))
+      ∙ ap (table rows) (append-assoc roots (root ∷ []) new)
+    where
+      line : lineAt (spelledRoot root ++ spell [] new) ≡ rootLine root (spell [] new)
+      line = root-line-reads root (spell [] new) (a .0)
+
+      fits : length (spelledRoot root ++ spell [] new) ≤ k
+      fits = omega (arith, ap length (spell-root root new))
+
+  rows-read :
+      (k : ℕ) (rows new : List Row) (roots : List ℕ) → Every ShortRow new → Every Short roots → length rows + length new ≤ R
+      → length roots ≤ P → length (spell new roots) ≤ k → readLines R P k rows [] (spell new roots) ≡ table (rows ++ new) roots
+  rows-read k rows [] roots a b h g f =
+      roots-read k rows [] roots b (omega arith) f ∙ ap (λ (l : List Row). table l roots) (sym (append-nil rows))
+  rows-read k rows (row ∷ new) roots a b h g f =
+      ap (readLines R P k rows []) (spell-row row new roots)
+      ∙ steps-on k rows [] (spelledRow row ++ spell new roots) (keepRow row (spell new roots)) fits
+      (ap (stepOf R P (length rows) 0) line ∙ row-is-kept R P (length rows) 0 row (spell new roots) refl (omega arith))
+      ∙ rows-read (k - 1) (rows ++ (row ∷ [])) new roots (a .1) b (omega (arith, length-append rows (row ∷ []))) g
+      (omega (arith, fits, row-shorter (spelledRow row ++ spell new roots) line))
+      ∙ ap (λ (l : List Row). table l roots) (append-assoc rows (row ∷ []) new)
+    where
+      line : lineAt (spelledRow row ++ spell new roots) ≡ rowLine row (spell new roots)
+      line = row-line-reads row (spell new roots) (a .0)
+
+      fits : length (spelledRow row ++ spell new roots) ≤ k
+      fits = omega (arith, ap length (spell-row row new roots))
 
 -- Whatever is spelled of a table that a sheet can hold is read back the same.
 pub spelled-is-read :
-    (rowPlaces rootPlaces : ℕ) (rows : List Row) (roots : List ℕ) → Holdable rowPlaces rootPlaces rows roots
-    → readSheet rowPlaces rootPlaces (spell rows roots) ≡ table rows roots
-spelled-is-read rowPlaces rootPlaces rows roots h =
-    sheet-opened rowPlaces rootPlaces (spell rows roots) (h .sheetFits) refl refl
-    ∙ rows-read (min procCeiling rootPlaces) (min rowCeiling rowPlaces) 0 rows roots (h .rowsShort) (h .rootsShort) (h .rowsFit) (h .rootsFit)
+    (z : Size) (rowsLent rootsLent : ℕ) (rows : List Row) (roots : List ℕ) → Holdable z rowsLent rootsLent rows roots
+    → readSheet z rowsLent rootsLent (spell rows roots) ≡ table rows roots
+spelled-is-read z rowsLent rootsLent rows roots h =
+    sheet-opened z rowsLent rootsLent (spell rows roots) (h .sheetFits) refl refl
+    ∙ rows-read (min rowCeiling rowsLent) (min (z .procs) rootsLent) (length (spell rows roots)) [] rows roots (h .rowsShort) (h .rootsShort)
+    (omega (arith, h .rowsFit)) (h .rootsFit) (omega arith)
 
 -- So the reader accepts exactly the sheets of this form.
 pub read-exactly :
-    (rowPlaces rootPlaces : ℕ) (bytes : List ℕ) (rows : List Row) (roots : List ℕ)
-    → (readSheet rowPlaces rootPlaces bytes ≡ table rows roots) ↔ ((spell rows roots ≡ bytes) × Holdable rowPlaces rootPlaces rows roots)
-read-exactly rowPlaces rootPlaces bytes rows roots = (
-  read-is-spelled rowPlaces rootPlaces bytes rows roots,
-  λ p. ap (readSheet rowPlaces rootPlaces) (sym (p .0)) ∙ spelled-is-read rowPlaces rootPlaces rows roots (p .1),
+    (z : Size) (rowsLent rootsLent : ℕ) (bytes : List ℕ) (rows : List Row) (roots : List ℕ)
+    → (readSheet z rowsLent rootsLent bytes ≡ table rows roots) ↔ ((spell rows roots ≡ bytes) × Holdable z rowsLent rootsLent rows roots)
+read-exactly z rowsLent rootsLent bytes rows roots = (
+  read-is-spelled z rowsLent rootsLent bytes rows roots,
+  λ p. ap (readSheet z rowsLent rootsLent) (sym (p .0)) ∙ spelled-is-read z rowsLent rootsLent rows roots (p .1),
 )

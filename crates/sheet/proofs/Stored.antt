@@ -1,29 +1,22 @@
 -- What the reader's contract comes to by the theorems on the form: a success has stored the table that the sheet spells, and a refusal nothing.
 -- `Post` is the contract itself. Assumes nothing.
-use mathlib.Core.Path.{_≡_, refl, sym, ap, _∙_}
-use mathlib.Core.List.{List, []}
+use mathlib.Core.Path.{_≡_, sym, ap, _∙_}
+use mathlib.Core.List.{List}
 use Prim.Native.Nat.{ℕ}
-use native.Mathlib.Omega.{arith}
 use denote.Ref.{now}
 use lib.ListN.{length}
+use Rattle.numbers.specs.General.{laid}
+use Rattle.numbers.specs.Sizes.{ours}
 use Rattle.numbers.specs.declared.Refusal.{Refusal}
 use Rattle.recipe.specs.declared.Row.{Row}
 use Rattle.sheet.specs.Form.{spell}
 use Rattle.recipe.specs.Records.{kindsOf, xsOf, ysOf}
-use Rattle.sheet.specs.Reading.{Reading, table, refused, readInto, rowsOf, rootsOf, replyOf, laid}
-use Rattle.sheet.specs.declared.Read.the-variants.{Stored, Refused}
+use Rattle.table.specs.Reading.{Reading, table, refused, rowsOf, rootsOf, replyOf}
+use Rattle.table.specs.declared.Read.the-variants.{Stored, Refused}
+use Rattle.table.proofs.Replies.{table-of, nothing-of}
+use Rattle.sheet.specs.Reading.{readInto}
 use Rattle.sheet.proofs.SheetForms.{read-is-spelled}
 use Rattle.sheet.proofs.read_sheet.Reads.{Post as read-sheet-post}
-
--- A reply that reports a table comes of one of that size.
-table-of : (w : Reading) (n m : ℕ) → replyOf w ≡ Stored n m → (w ≡ table (rowsOf w) (rootsOf w)) × (length (rowsOf w) ≡ n) × (length (rootsOf w) ≡ m)
-table-of (table rows roots) n m e = (refl, cc, cc)
-table-of (refused why) n m e = let z : _≡_ {A = ℕ} 0 1 = cc in absurd (omega arith)
-
--- A reply that refuses comes of nothing read.
-nothing-of : (w : Reading) (why : Refusal) → replyOf w ≡ Refused why → (rowsOf w ≡ []) × (rootsOf w ≡ [])
-nothing-of (table rows roots) why e = let z : _≡_ {A = ℕ} 0 1 = cc in absurd (omega arith)
-nothing-of (refused other) why e = (refl, refl)
 
 pub stored-is-spelled :
     (κs a r s : _) → read-sheet-post κs a r s → (n m : ℕ) → r ≡ Stored n m
@@ -33,11 +26,11 @@ pub stored-is-spelled :
     × (now (s .1 .1 .1 .0) ≡ laid (ysOf rows) (now (a .1 .1 .1 .0)))
     × (now (s .1 .1 .1 .1 .0) ≡ laid roots (now (a .1 .1 .1 .1 .0)))
 stored-is-spelled κs a r s p n m e =
-    let w = readInto (now (a .0)) (now (a .1 .0)) (now (a .1 .1 .0)) (now (a .1 .1 .1 .0)) (now (a .1 .1 .1 .1 .0)) in
+    let w = readInto ours (now (a .0)) (now (a .1 .0)) (now (a .1 .1 .0)) (now (a .1 .1 .1 .0)) (now (a .1 .1 .1 .1 .0)) in
     let t = table-of w n m (sym (p .0) ∙ e) in (
       rowsOf w,
       rootsOf w,
-      read-is-spelled _ _ (now (a .0)) (rowsOf w) (rootsOf w) (t .0) .0,
+      read-is-spelled ours _ _ (now (a .0)) (rowsOf w) (rootsOf w) (t .0) .0,
       t .1,
       t .2,
       p .1 .0,
@@ -53,7 +46,7 @@ pub refusal-stores-nothing :
     × (now (s .1 .1 .1 .0) ≡ now (a .1 .1 .1 .0))
     × (now (s .1 .1 .1 .1 .0) ≡ now (a .1 .1 .1 .1 .0))
 refusal-stores-nothing κs a r s p why e =
-    let w = readInto (now (a .0)) (now (a .1 .0)) (now (a .1 .1 .0)) (now (a .1 .1 .1 .0)) (now (a .1 .1 .1 .1 .0)) in
+    let w = readInto ours (now (a .0)) (now (a .1 .0)) (now (a .1 .1 .0)) (now (a .1 .1 .1 .0)) (now (a .1 .1 .1 .1 .0)) in
     let t = nothing-of w why (sym (p .0) ∙ e) in (
       p .1 .0 ∙ ap (λ (rows : List Row). laid (kindsOf rows) (now (a .1 .0))) (t .0),
       p .1 .1 .0 ∙ ap (λ (rows : List Row). laid (xsOf rows) (now (a .1 .1 .0))) (t .0),

@@ -2,4 +2,4 @@ pub mod Form
 pub mod Lines
 pub mod Reading
 pub mod Offences
-pub mod Steps
+pub mod Inner

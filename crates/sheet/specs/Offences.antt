@@ -4,31 +4,27 @@ use mathlib.Core.List.{List, [], _++_}
 use Prim.Native.Nat.{ℕ, _+_, _<_}
 use lib.ListN.{length}
 use Rattle.numbers.specs.declared.Refusal.{Refusal}
-use Rattle.numbers.specs.declared.Refusal.the-variants.{WrongForm, NoRoom}
 use Rattle.recipe.specs.declared.Row.{Row}
 use Rattle.sheet.specs.Form.{spell}
 use Rattle.sheet.specs.Lines.{lineAt, rowLine, rootLine, wrongLine}
+use Rattle.sheet.specs.Reading.{wrongForm, noRoom}
 
 -- How line j offends where there is room for R rows and P procedures, by the rows and roots before it and the bytes from it on:
 -- its form is wrong, or it is a row after a root, or it is of right form and the rows or the roots before it fill the room.
 pub data Offends (R P : ℕ) (rows : List Row) (roots rest : List ℕ) (j : ℕ) : Refusal → Type 0 where
-  misformed : lineAt rest ≡ wrongLine → Offends R P rows roots rest j (WrongForm (record { 0 = j }))
+  misformed : lineAt rest ≡ wrongLine → Offends R P rows roots rest j (wrongForm j)
   late :
-      {row : Row} {t : List ℕ} → lineAt rest ≡ rowLine row t → 0 < length roots
-      → Offends R P rows roots rest j (WrongForm (record { 0 = j }))
+      {row : Row} {t : List ℕ} → lineAt rest ≡ rowLine row t → 0 < length roots → Offends R P rows roots rest j (wrongForm j)
   rowLacks :
       {row : Row} {t : List ℕ} → lineAt rest ≡ rowLine row t → roots ≡ [] → length rows ≡ R
-      → Offends R P rows roots rest j (NoRoom (record { 0 = j }))
+      → Offends R P rows roots rest j (noRoom j)
   rootLacks :
-      {root : ℕ} {t : List ℕ} → lineAt rest ≡ rootLine root t → length roots ≡ P
-      → Offends R P rows roots rest j (NoRoom (record { 0 = j }))
+      {root : ℕ} {t : List ℕ} → lineAt rest ≡ rootLine root t → length roots ≡ P → Offends R P rows roots rest j (noRoom j)
 
--- The first line of some bytes that offends, the lines being numbered from i: each line before it is a row or a root as it is spelled.
-pub record Offence (R P i : ℕ) (bytes : List ℕ) (why : Refusal) : Type 0 where
+-- The first line of a sheet that offends: each line before it is a row or a root as it is spelled, and they make its number.
+pub record Offence (R P : ℕ) (bytes : List ℕ) (why : Refusal) : Type 0 where
   pub rows : List Row
   pub roots : List ℕ
   pub rest : List ℕ
-  pub line : ℕ
   pub spelled : bytes ≡ spell rows roots ++ rest
-  pub counted : line ≡ i + (length rows + length roots)
-  pub offends : Offends R P rows roots rest line why
+  pub offends : Offends R P rows roots rest (length rows + length roots) why

@@ -1,92 +1,61 @@
--- Reading a sheet line by line: the rows, then the procedures. The first line that is wrong or has no room decides.
-use mathlib.Core.Bool.{true, false}
+-- Reading a sheet from line to line: the rows, then the procedures. The first line that is wrong or has no room decides.
+use mathlib.Core.Bool.{cond}
 use mathlib.Core.List.{List, [], _∷_, _++_}
 use Prim.Native.Nat.{ℕ, zero, suc, _+_, min}
-use lib.Dec.{leb}
-use lib.ListN.{length, drop}
-use Rattle.numbers.specs.Ceilings.{rowCeiling, procCeiling, sheetCeiling}
+use lib.Dec.{ltb, leb}
+use lib.ListN.{length}
+use Rattle.numbers.specs.Sizes.{Size, rowCeiling, sheetCeiling}
 use Rattle.numbers.specs.declared.Refusal.{Refusal}
 use Rattle.numbers.specs.declared.Refusal.the-variants.{LongSheet, WrongForm, NoRoom}
 use Rattle.recipe.specs.declared.Row.{Row}
+use Rattle.table.specs.Reading.{Reading, table, refused}
+use Rattle.table.specs.Storing.{rowPlaces}
 use Rattle.sheet.specs.Lines.{Line, lineAt, noLine, rowLine, rootLine, wrongLine}
-use Rattle.sheet.specs.declared.Read.{Read}
-use Rattle.sheet.specs.declared.Read.the-variants.{Stored, Refused}
 
--- What reading comes to: the rows and the procedures' roots, or a refusal.
-pub data Reading : Type 0 where
-  table : List Row → List ℕ → Reading
-  refused : Refusal → Reading
-
--- A row before those that were read.
-abbrev pub withRow : Row → Reading → Reading
-withRow row (table rows roots) = table (row ∷ rows) roots
-withRow row (refused why) = refused why
-
--- A procedure's root before those that were read.
-abbrev pub withRoot : ℕ → Reading → Reading
-withRoot root (table rows roots) = table rows (root ∷ roots)
-withRoot root (refused why) = refused why
+-- What is done with a line: the sheet ends, the line is refused, or its row or root is kept and the bytes after it are next.
+pub data Step : Type 0 where
+  done : Step
+  refuse : Refusal → Step
+  keepRow : Row → List ℕ → Step
+  keepRoot : ℕ → List ℕ → Step
 
 -- Line i breaks the form.
-abbrev pub wrongForm : ℕ → Reading
-wrongForm i = refused (WrongForm (record { 0 = i }))
+abbrev pub wrongForm : ℕ → Refusal
+wrongForm i = WrongForm (record { 0 = i })
 
 -- Line i finds no room.
-abbrev pub noRoom : ℕ → Reading
-noRoom i = refused (NoRoom (record { 0 = i }))
+abbrev pub noRoom : ℕ → Refusal
+noRoom i = NoRoom (record { 0 = i })
 
--- Line i among the procedure lines: `keep` says what comes of a root. A row comes too late.
-abbrev pub amongRoots : (ℕ → List ℕ → Reading) → ℕ → Line → Reading
-amongRoots keep i noLine = table [] []
-amongRoots keep i (rowLine row t) = wrongForm i
-amongRoots keep i (rootLine root t) = keep root t
-amongRoots keep i wrongLine = wrongForm i
+-- What is done with a line where n rows and m roots are kept already, with room for R rows and P roots.
+-- Each line before it is kept, so it is line n + m. A row after a root is wrong, however much room there is.
+unfoldable pub stepOf : ℕ → ℕ → ℕ → ℕ → Line → Step
+stepOf R P n m noLine = done
+stepOf R P n m wrongLine = refuse (wrongForm (n + m))
+stepOf R P n m (rowLine row rest) =
+    cond (ltb 0 m) (refuse (wrongForm (n + m))) (cond (ltb n R) (keepRow row rest) (refuse (noRoom (n + m))))
+stepOf R P n m (rootLine root rest) = cond (ltb m P) (keepRoot root rest) (refuse (noRoom (n + m)))
 
--- The procedure lines from line i on, with room for so many procedures.
-unfoldable pub readRoots : ℕ → ℕ → List ℕ → Reading
-readRoots zero i s = amongRoots (λ root t. noRoom i) i (lineAt s)
-readRoots (suc room) i s = amongRoots (λ root t. withRoot root (readRoots room (i + 1) t)) i (lineAt s)
+-- The reading after a step, where these rows and roots are kept: it is over, or `onward` reads the next line.
+abbrev pub afterStep : (List Row → List ℕ → List ℕ → Reading) → List Row → List ℕ → Step → Reading
+afterStep onward rows roots done = table rows roots
+afterStep onward rows roots (refuse why) = refused why
+afterStep onward rows roots (keepRow row rest) = onward (rows ++ (row ∷ [])) roots rest
+afterStep onward rows roots (keepRoot root rest) = onward rows (roots ++ (root ∷ [])) rest
 
--- Line i among the row lines: `keep` says what comes of a row. From the first root on, procedure lines are left.
-abbrev pub amongRows : (Row → List ℕ → Reading) → Reading → ℕ → Line → Reading
-amongRows keep procedures i noLine = table [] []
-amongRows keep procedures i (rowLine row t) = keep row t
-amongRows keep procedures i (rootLine root t) = procedures
-amongRows keep procedures i wrongLine = wrongForm i
+-- The reading of at most k lines, where these rows and roots are kept already and these bytes are left.
+unfoldable pub readLines : ℕ → ℕ → ℕ → List Row → List ℕ → List ℕ → Reading
+readLines R P zero rows roots s = table rows roots
+readLines R P (suc k) rows roots s =
+    afterStep (readLines R P k) rows roots (stepOf R P (length rows) (length roots) (lineAt s))
 
--- The row lines from line i on, with room for so many rows, and then the procedure lines.
-unfoldable pub readRows : ℕ → ℕ → ℕ → List ℕ → Reading
-readRows procRoom zero i s = amongRows (λ row t. noRoom i) (readRoots procRoom i s) i (lineAt s)
-readRows procRoom (suc room) i s =
-    amongRows (λ row t. withRow row (readRows procRoom room (i + 1) t)) (readRoots procRoom i s) i (lineAt s)
-
--- A whole sheet, with so many places lent for rows and for roots.
-unfoldable pub readSheet : ℕ → ℕ → List ℕ → Reading
-readSheet rowPlaces rootPlaces bytes =
-    elim (leb (length bytes) sheetCeiling) [
-      | true ↦ readRows (min procCeiling rootPlaces) (min rowCeiling rowPlaces) 0 bytes
-      | false ↦ refused LongSheet
-    ]
+-- A whole sheet, with so many places lent for rows and for roots. It has no more lines than bytes.
+unfoldable pub readSheet : Size → ℕ → ℕ → List ℕ → Reading
+readSheet z rowsLent rootsLent bytes =
+    cond (leb (length bytes) sheetCeiling)
+    (readLines (min rowCeiling rowsLent) (min (z .procs) rootsLent) (length bytes) [] [] bytes)
+    (refused LongSheet)
 
 -- The reading into slices that hold these lists: of the three slices for rows, the shortest counts.
-abbrev pub readInto : List ℕ → List ℕ → List ℕ → List ℕ → List ℕ → Reading
-readInto bytes kinds xs ys roots = readSheet (min (length kinds) (min (length xs) (length ys))) (length roots) bytes
-
--- The rows that were read: none after a refusal.
-abbrev pub rowsOf : Reading → List Row
-rowsOf (table rows roots) = rows
-rowsOf (refused why) = []
-
--- The roots that were read: none after a refusal.
-abbrev pub rootsOf : Reading → List ℕ
-rootsOf (table rows roots) = roots
-rootsOf (refused why) = []
-
--- The reply: the numbers of rows and of procedures read, or the refusal.
-abbrev pub replyOf : Reading → Read
-replyOf (table rows roots) = Stored (length rows) (length roots)
-replyOf (refused why) = Refused why
-
--- A lent slice after the reading: what was read, then what stood there behind it.
-abbrev pub laid : {A : Type 0} → List A → List A → List A
-laid new old = new ++ drop (length new) old
+abbrev pub readInto : Size → List ℕ → List ℕ → List ℕ → List ℕ → List ℕ → Reading
+readInto z bytes kinds xs ys roots = readSheet z (rowPlaces kinds xs ys) (length roots) bytes

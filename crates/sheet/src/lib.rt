@@ -1,26 +1,58 @@
 // The sheet: a recipe's table as lines of text, and its reader.
 ghost use mathlib.Core.Path.{_≡_};
-ghost use Prim.Native.Nat.{min};
+ghost use Rattle.numbers.specs.General.{laid};
+ghost use Rattle.numbers.specs.Sizes.{ours};
 ghost use Rattle.recipe.specs.Records.{kindsOf, xsOf, ysOf};
-ghost use Rattle.sheet.specs.Reading.{readInto, rowsOf, rootsOf, replyOf, laid};
-use lines::Room;
+ghost use Rattle.table.specs.Reading.{rowsOf, rootsOf, replyOf};
+ghost use Rattle.table.specs.Storing.{heldOf};
+ghost use Rattle.sheet.specs.Reading.{readSheet, readInto};
+use lines::Step;
 use numbers::Refusal;
+use numbers::SheetSize;
+use table::Held;
+use table::Read;
+use table::Room;
 
-mod fields;
+mod keywords;
 mod lines;
-mod storage;
 
-// What reading a sheet comes to: the numbers of rows and of procedures that were stored, or a refusal.
-pub enum Read {
-    Stored(usize, usize),
-    Refused(Refusal),
-}
-
-// The smaller of two numbers.
-fn least(a: usize, b: usize) -> usize
-    ensures { λ r. ⌜ r ≡ min a b ⌝ }
+// Reads a sheet, with so many places lent for rows and for roots, and holds what was read.
+pub fn hold_sheet(bytes: &[u8], places: Room) -> Held
+    ensures { λ r. ⌜ r ≡ heldOf (readSheet ours (places .rows) (places .roots) (now (bytes .entry))) ⌝ }
 {
-    if a < b { a } else { b }
+    if SheetSize::CEILING < bytes.len() {
+        return table::refusal(Refusal::LongSheet);
+    }
+    let room = places.within_ceilings();
+    let mut rows = table::no_rows();
+    let mut roots = table::no_roots();
+    let mut at = 0;
+    let mut n = 0;
+    let mut m = 0;
+    loop {
+        match lines::step_at(bytes, at, n, m, room) {
+            Step::KeepRow(row, next) => {
+                rows[n] = row;
+                n += 1;
+                at = next;
+            }
+            Step::KeepRoot(root, next) => {
+                roots[m] = root;
+                m += 1;
+                at = next;
+            }
+            Step::Done => {
+                return Held {
+                    rows,
+                    roots,
+                    reply: Read::Stored(n, m),
+                };
+            }
+            Step::Refuse(why) => {
+                return table::refusal(why);
+            }
+        }
+    }
 }
 
 // Reads a sheet into lent slices, row by row and root by root. After a refusal they are as before.
@@ -31,22 +63,23 @@ pub fn read_sheet(
     ys: &mut [u16],
     roots: &mut [u16],
 ) -> Read
-    ensures { λ r. ⌜ r ≡ replyOf (readInto (now (bytes .entry)) (now (kinds .entry)) (now (xs .entry)) (now (ys .entry)) (now (roots .entry))) ⌝ }
-    ensures { λ _. ⌜ now (kinds .exit) ≡ laid (kindsOf (rowsOf (readInto (now (bytes .entry)) (now (kinds .entry)) (now (xs .entry)) (now (ys .entry)) (now (roots .entry))))) (now (kinds .entry)) ⌝ }
-    ensures { λ _. ⌜ now (xs .exit) ≡ laid (xsOf (rowsOf (readInto (now (bytes .entry)) (now (kinds .entry)) (now (xs .entry)) (now (ys .entry)) (now (roots .entry))))) (now (xs .entry)) ⌝ }
-    ensures { λ _. ⌜ now (ys .exit) ≡ laid (ysOf (rowsOf (readInto (now (bytes .entry)) (now (kinds .entry)) (now (xs .entry)) (now (ys .entry)) (now (roots .entry))))) (now (ys .entry)) ⌝ }
-    ensures { λ _. ⌜ now (roots .exit) ≡ laid (rootsOf (readInto (now (bytes .entry)) (now (kinds .entry)) (now (xs .entry)) (now (ys .entry)) (now (roots .entry)))) (now (roots .entry)) ⌝ }
+    ensures { λ r. let w = readInto ours (now (bytes .entry)) (now (kinds .entry)) (now (xs .entry)) (now (ys .entry)) (now (roots .entry)) in
+        ⌜ (r ≡ replyOf w)
+        × ((now (kinds .exit) ≡ laid (kindsOf (rowsOf w)) (now (kinds .entry)))
+        × ((now (xs .exit) ≡ laid (xsOf (rowsOf w)) (now (xs .entry)))
+        × ((now (ys .exit) ≡ laid (ysOf (rowsOf w)) (now (ys .entry)))
+        × (now (roots .exit) ≡ laid (rootsOf w) (now (roots .entry)))))) ⌝ }
 {
     let places = Room {
-        rows: least(kinds.len(), least(xs.len(), ys.len())),
+        rows: table::least(kinds.len(), table::least(xs.len(), ys.len())),
         roots: roots.len(),
     };
-    let held = lines::read_lines(bytes, places);
+    let held = hold_sheet(bytes, places);
     let rows = held.rows;
     let read_roots = held.roots;
     let reply = held.reply;
-    let count = storage::reported(reply);
-    storage::store_rows(kinds, xs, ys, rows, count.rows);
-    storage::store_roots(roots, read_roots, count.roots);
+    let count = table::reported(reply);
+    table::store_rows(kinds, xs, ys, rows, count.rows);
+    table::store_roots(roots, read_roots, count.roots);
     reply
 }

@@ -1,31 +1,36 @@
 -- `read_sheet` meets its contract: what is held of the reading is stored, as many rows and roots as the reply reports, and a refusal reports none.
 -- Assumes nothing.
 use borrow.Author.Needs.{needs}
-use mathlib.Core.Path.{ap, _∙_, subst}
-use Prim.Native.Nat.{ℕ, min}
+use mathlib.Core.Path.{_≡_, ap, _∙_}
+use Prim.Native.Nat.{ℕ, _≤_, min}
+use native.Mathlib.Omega.{arith}
 use denote.Ref.{now}
 use lib.ListN.{length}
-use Rattle.recipe.specs.Records.{kindsOf, xsOf, ysOf}
-use Rattle.sheet.specs.Reading.{Reading, readInto, readSheet}
-use Rattle.sheet.specs.Steps.{Holding}
-use Rattle.sheet.proofs.Holdings.{rows-counted, rows-taken, rows-there, roots-counted, roots-taken, roots-there}
-use Rattle.sheet.proofs.Laying.{relaid}
-use Rattle.sheet.proofs.Within.{rows-fit, roots-fit}
+use Rattle.numbers.specs.Sizes.{ours}
+use Rattle.recipe.specs.declared.Row.{Row}
+use Rattle.table.specs.Reading.{Reading, rowsOf}
+use Rattle.table.specs.Storing.{rowPlaces, heldOf}
+use Rattle.table.specs.declared.Held.{Held}
+use Rattle.table.proofs.Laying.{held-column, held-roots}
+use Rattle.sheet.specs.Reading.{readSheet, readInto}
+use Rattle.sheet.proofs.SheetForms.{sheet-within}
 use Rattle.sheet.proofs.read_sheet.Statement.{statement}
 use Rattle.sheet.proofs.read_sheet.Tie as tie
 
 -- The reading that the contract names is what is held: the shortest of the three slices was passed on.
-abbrev whole : tie.After-read-lines → Reading
-whole c =
-    let a = c .before .before .before .before .before .before .before .before .args in
-    readInto (now (a .bytes)) (now (a .kinds)) (now (a .xs)) (now (a .ys)) (now (a .roots))
+abbrev start : tie.After-hold-sheet → tie.Start
+start c = c .before .before .before .before .before .before .before .before
 
-held : (c : tie.After-read-lines) → Holding (whole c) (c .read-lines .result)
+abbrev whole : tie.After-hold-sheet → Reading
+whole c =
+    let a = start c .args in readInto ours (now (a .bytes)) (now (a .kinds)) (now (a .xs)) (now (a .ys)) (now (a .roots))
+
+held : (c : tie.After-hold-sheet) → c .hold-sheet .result ≡ heldOf (whole c)
 held c =
-    let a = c .before .before .before .before .before .before .before .before .args in
-    subst (λ (k : ℕ). Holding (readSheet k (length (now (a .roots))) (now (a .bytes))) (c .read-lines .result))
+    let a = start c .args in
+    c .hold-sheet .ensures
+    ∙ ap (λ (k : ℕ). heldOf (readSheet ours k (length (now (a .roots))) (now (a .bytes))))
     (c .before .least2 .ensures ∙ ap (min (length (now (a .kinds)))) (c .before .before .least .ensures))
-    (c .read-lines .ensures)
 
 least-requires : tie.Need-least-requires
 least-requires c κs = search needs
@@ -33,27 +38,17 @@ least-requires c κs = search needs
 least-requires-2 : tie.Need-least-requires-2
 least-requires-2 c κs = search needs
 
-read-lines-requires : tie.Need-read-lines-requires
-read-lines-requires c κs = search needs
+hold-sheet-requires : tie.Need-hold-sheet-requires
+hold-sheet-requires c κs = search needs
 
 reported-requires : tie.Need-reported-requires
 reported-requires c κs = search needs
 
 store-rows-requires : tie.Need-store-rows-requires
-store-rows-requires c κs =
-    let read = held (c .before .before .before .before .before .before) in
-    let a = c .before .before .before .before .before .before .before .before .before .before .before .before .before .before .args in
-    let n = c .before .before .before .reported .ensures .0 in
-    let fits = rows-fit (now (a .bytes)) (now (a .kinds)) (now (a .xs)) (now (a .ys)) (now (a .roots)) (rows-counted read n) in
-    ((fits .0, rows-there read n), (fits .1, fits .2, fits .3))
+store-rows-requires c κs = search needs
 
 store-roots-requires : tie.Need-store-roots-requires
-store-roots-requires c κs =
-    let read = held (c .before .before .before .before .before .before .before .before .before .before .before .before .before .before) in
-    let a = c .before .before .before .before .before .before .before .before .before .before .before .before .before .before .before .before .before .before .before .before .before .before .args in
-    let m = c .before .before .before .before .before .before .before .before .before .before .before .reported .ensures .1 in
-    let fits = roots-fit (now (a .bytes)) (now (a .kinds)) (now (a .xs)) (now (a .ys)) (now (a .roots)) (roots-counted read m) in
-    (fits .0, roots-there read m, fits .1)
+store-roots-requires c κs = search needs
 
 same-length : tie.Need-same-length
 same-length c = search needs
@@ -69,19 +64,24 @@ same-length-4 c = search needs
 
 returns : tie.Need-returns
 returns c =
-    let read = held (c .before .before .before .before .before .before .before .before .before .before .before .before .before .before .before .before .before) in
-    let a = c .before .before .before .before .before .before .before .before .before .before .before .before .before .before .before .before .before .before .before .before .before .before .before .before .before .args in
-    let count = c .before .before .before .before .before .before .before .before .before .before .before .before .before .before .reported .ensures in
-    let stored = c .before .before .before .before .before .before .before .before .before .before .store-rows .ensures in
-    let same = rows-taken read (count .0) in (
-      read .reply,
+    let roots-stored = c .before .before in
+    let rows-stored = roots-stored .before .before .before .before .before .before .before .before in
+    let told = rows-stored .before .before .before .before in
+    let read = told .before .before .before in
+    let count = told .reported .ensures in
+    let stored = rows-stored .store-rows .ensures in
+    let a = start read .args in
+    let places = rowPlaces (now (a .kinds)) (now (a .xs)) (now (a .ys)) in
+    let room = sheet-within ours places (length (now (a .roots))) (now (a .bytes)) in
+    let fits : length (rowsOf (whole read)) ≤ places = omega (arith, room .rows) in (
+      ap (λ (h : Held). h .reply) (held read),
       (
-        relaid kindsOf (now (a .kinds)) same (stored .0),
+        stored .0 ∙ held-column (whole read) (held read) (λ (r : Row). r .kind) (now (a .kinds)) places (count .0) fits (omega arith),
         (
-          relaid xsOf (now (a .xs)) same (stored .1 .0),
+          stored .1 .0 ∙ held-column (whole read) (held read) (λ (r : Row). r .x) (now (a .xs)) places (count .0) fits (omega arith),
           (
-            relaid ysOf (now (a .ys)) same (stored .1 .1),
-            relaid (λ new. new) (now (a .roots)) (roots-taken read (count .1)) (c .before .before .store-roots .ensures),
+            stored .1 .1 ∙ held-column (whole read) (held read) (λ (r : Row). r .y) (now (a .ys)) places (count .0) fits (omega arith),
+            roots-stored .store-roots .ensures ∙ held-roots (whole read) (held read) (now (a .roots)) (count .1) (omega (arith, room .roots)),
           ),
         ),
       ),
@@ -93,7 +93,7 @@ read-sheet-spec =
     (tie.spec
     least-requires
     least-requires-2
-    read-lines-requires
+    hold-sheet-requires
     reported-requires
     store-rows-requires
     store-roots-requires

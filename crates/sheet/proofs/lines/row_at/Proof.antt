@@ -1,15 +1,71 @@
 -- `row_at` meets its contract: the three fields are read in order, and the first that is missing makes the line wrong. There are no kinds above 6, so a kind fits a byte.
 -- Assumes nothing.
 use borrow.Author.Needs.{needs}
+use mathlib.Core.Path.{_≡_}
+use mathlib.Core.List.{List}
+use Prim.Native.Nat.{ℕ}
 use native.Mathlib.Omega.{arith}
-use Rattle.text.proofs.TokenLaws.{number-field, told}
-use Rattle.sheet.proofs.FieldForms.{kind-small}
-use Rattle.sheet.proofs.LineLaws.{no-kind, no-x, no-y, row-read}
+use denote.Ref.{now}
+use lib.ListN.{drop}
+use Rattle.text.specs.Bytes.{tab, newline}
+use Rattle.text.specs.Fields.{holds, numberAt}
+use Rattle.text.specs.Inner.{fieldOf}
+use Rattle.text.proofs.TokenLaws.{told, number-field}
+use Rattle.sheet.specs.Lines.{keywordAt}
+use Rattle.sheet.proofs.KeywordLaws.{kind-small}
+use Rattle.sheet.proofs.LineLaws.{no-keyword, no-x, no-y, row-read}
 use Rattle.sheet.proofs.lines.row_at.Statement.{statement}
 use Rattle.sheet.proofs.lines.row_at.Tie as tie
 
-kind-at-requires : tie.Need-kind-at-requires
-kind-at-requires c κs = search needs
+-- The bytes; the kind and the place behind it; x and the place behind it.
+abbrev bytes : tie.Start → List ℕ
+bytes c = now (c .args .bytes)
+
+abbrev kind : tie.After-kind → ℕ
+kind c = c .kind .given .0 .0
+
+abbrev after-kind : tie.After-kind → ℕ
+after-kind c = c .kind .given .0 .1 .0
+
+abbrev x : tie.After-x → ℕ
+x c = c .x .given .0 .0
+
+abbrev after-x : tie.After-x → ℕ
+after-x c = c .x .given .0 .1 .0
+
+-- What the fields are by their definitions.
+kind-found :
+    (c : tie.After-kind)
+    → let start = c .before .before .before .before in
+    holds (kind c) (drop (after-kind c) (bytes start)) ≡ keywordAt (drop (start .args .at) (bytes start))
+kind-found c = told _ (c .kind .given .1) (c .before .before .keyword-at .ensures)
+
+x-read :
+    (c : tie.After-number-at)
+    → let k = c .before .before in
+    let b = bytes (k .before .before .before .before) in
+    fieldOf b (c .number-at .result) ≡ numberAt tab (drop (after-kind k) b)
+x-read c =
+    let k = c .before .before in number-field (bytes (k .before .before .before .before)) (after-kind k) tab (c .number-at .ensures)
+
+x-found :
+    (c : tie.After-x)
+    → let k = c .before .before .before .before in
+    let b = bytes (k .before .before .before .before) in
+    holds (x c) (drop (after-x c) b) ≡ numberAt tab (drop (after-kind k) b)
+x-found c = told _ (c .x .given .1) (x-read (c .before .before))
+
+y-read :
+    (c : tie.After-number-at2)
+    → let v = c .before .before in
+    let b = bytes (v .before .before .before .before .before .before .before .before) in
+    fieldOf b (c .number-at2 .result) ≡ numberAt newline (drop (after-x v) b)
+y-read c =
+    let v = c .before .before in
+    number-field (bytes (v .before .before .before .before .before .before .before .before)) (after-x v) newline (c .number-at2 .ensures)
+
+keyword-at-requires : tie.Need-keyword-at-requires
+keyword-at-requires c κs = search needs
 
 enum-known-kind : tie.Need-enum-known-kind
 enum-known-kind c = search needs
@@ -18,7 +74,7 @@ enum-told : tie.Need-enum-told
 enum-told c = search needs
 
 returns : tie.Need-returns
-returns c = no-kind _ (told _ (c .enum-told .given .1) (c .before .before .kind-at .ensures))
+returns c = no-keyword _ (told _ (c .enum-told .given .1) (c .before .before .keyword-at .ensures))
 
 number-at-requires : tie.Need-number-at-requires
 number-at-requires c κs = search needs
@@ -31,8 +87,8 @@ enum-told-2 c = search needs
 
 returns-2 : tie.Need-returns-2
 returns-2 c =
-    no-x _ _ _ (told _ (c .before .before .before .before .kind .given .1) (c .before .before .before .before .before .before .kind-at .ensures))
-    (told _ (c .enum-told2 .given .1) (number-field _ _ _ (c .before .before .number-at .ensures)))
+    let read = c .before .before in
+    no-x _ _ _ (kind-found (read .before .before)) (told _ (c .enum-told2 .given .1) (x-read read))
 
 number-at-requires-2 : tie.Need-number-at-requires-2
 number-at-requires-2 c κs = search needs
@@ -45,24 +101,24 @@ enum-told-3 c = search needs
 
 returns-3 : tie.Need-returns-3
 returns-3 c =
-    no-y _ _ _ (told _ (c .before .before .before .before .before .before .before .before .kind .given .1) (c .before .before .before .before .before .before .before .before .before .before .kind-at .ensures))
-    _ _ (told _ (c .before .before .before .before .x .given .1) (number-field _ _ _ (c .before .before .before .before .before .before .number-at .ensures)))
-    (told _ (c .enum-told3 .given .1) (number-field _ _ _ (c .before .before .number-at2 .ensures)))
+    let read = c .before .before in
+    let v = read .before .before in
+    no-y _ _ _ (kind-found (v .before .before .before .before)) _ _ (x-found v) (told _ (c .enum-told3 .given .1) (y-read read))
 
 cast-t12 : tie.Need-cast-t12
-cast-t12 c = omega (arith, kind-small _ (told _ (c .before .before .before .before .before .before .before .before .before .kind .given .1) (c .before .before .before .before .before .before .before .before .before .before .before .kind-at .ensures)))
+cast-t12 c = let v = c .before .before .before .before .before in omega (arith, kind-small _ (kind-found (v .before .before .before .before)))
 
 returns-4 : tie.Need-returns-4
 returns-4 c =
-    row-read _ _ _ (told _ (c .before .before .before .before .before .before .before .before .before .kind .given .1) (c .before .before .before .before .before .before .before .before .before .before .before .kind-at .ensures))
-    _ _ (told _ (c .before .before .before .before .before .x .given .1) (number-field _ _ _ (c .before .before .before .before .before .before .before .number-at .ensures)))
-    _ _ (told _ (c .before .y .given .1) (number-field _ _ _ (c .before .before .before .number-at2 .ensures)))
+    let read = c .before .before .before in
+    let v = read .before .before in
+    row-read _ _ _ (kind-found (v .before .before .before .before)) _ _ (x-found v) _ _ (told _ (c .before .y .given .1) (y-read read))
 
 pub row-at-spec : {M : Type 1} → statement M
 row-at-spec =
     tie.close
     (tie.spec
-    kind-at-requires
+    keyword-at-requires
     enum-known-kind
     enum-told
     returns

@@ -1,3 +1,0 @@
-pub mod CountedLoop
-pub mod LocalArray
-pub mod RowMemory

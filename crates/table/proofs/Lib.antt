@@ -1,0 +1,6 @@
+pub mod Overlaid
+pub mod Laying
+pub mod Replies
+pub mod CountedLoop
+pub mod LocalArray
+pub mod RowMemory
