@@ -11,17 +11,20 @@ use Rattle.calls.proofs.reach.close.Statement.{statement}
 use Rattle.calls.proofs.reach.close.Tie as tie
 
 abbrev Inv-loop : tie.InvT-loop
-Inv-loop reach₀ n k₀ reach k = (k ≤ n) × (length reach ≡ length reach₀) × (reach ≡ closedBelow n k reach₀)
+Inv-loop reach₀ n k₀ reach k = (reach ≡ closedBelow n k reach₀) × (k ≤ n) × (length reach ≡ length reach₀)
 
 abbrev μ-loop : tie.MeasureT-loop
 μ-loop reach₀ n k₀ reach k = n - k
 
--- The loop's head, from the end of a turn, and the entry.
+-- The loop's head and the turn's test, from the end of a turn.
 abbrev head : tie.After-slice-known2 Inv-loop μ-loop → tie.At-loop Inv-loop μ-loop
 head c = c .before .before .before .before .before
 
+abbrev turn : tie.After-slice-known2 Inv-loop μ-loop → tie.In-loop Inv-loop μ-loop
+turn c = c .before .before .before .before
+
 loop-holds : tie.Need-loop-holds Inv-loop μ-loop
-loop-holds c = (omega arith, refl, closed-none _ _)
+loop-holds c = (closed-none _ _, omega arith, refl)
 
 cast-t8 : tie.Need-cast-t8 Inv-loop μ-loop
 cast-t8 c = omega arith
@@ -30,29 +33,29 @@ through-requires : tie.Need-through-requires Inv-loop μ-loop
 through-requires c κs = omega (arith, c .before .before)
 
 add-k : tie.Need-add-k Inv-loop μ-loop
-add-k c = omega (arith, head c .before .before .pre, c .before .before .before .before .loop-test .taken)
+add-k c = omega (arith, head c .before .before .pre, turn c .loop-test .taken)
 
 loop-less : tie.Need-loop-less Inv-loop μ-loop
-loop-less c = let h = c .before .before .before .before .loop-test .taken in omega arith
+loop-less c = let h = turn c .loop-test .taken in omega arith
 
 loop-again : tie.Need-loop-again Inv-loop μ-loop
 loop-again c =
     let l = head c .loop in
     let n = head c .before .before .args .n in
     let t = c .before .before .through in (
-      omega (arith, c .before .before .before .before .loop-test .taken),
-      t .kept .0 ∙ l .inv .1,
-      t .ensures ∙ ap (throughAlso n (l .k)) (l .inv .2) ∙ closed-more n (l .k) _,
+      t .ensures ∙ ap (throughAlso n (l .k)) (l .inv .0) ∙ closed-more n (l .k) _,
+      omega (arith, turn c .loop-test .taken),
+      t .kept .0 ∙ l .inv .2,
     )
 
 same-length : tie.Need-same-length Inv-loop μ-loop
-same-length c = c .before .loop .inv .1
+same-length c = c .before .loop .inv .2
 
 returns : tie.Need-returns Inv-loop μ-loop
 returns c =
-    let n = c .before .before .before .args .n in
-    let done : c .before .loop .k ≡ n = omega arith in
-    c .before .loop .inv .2 ∙ ap (λ (k : ℕ). closedBelow n k (now (c .before .before .before .args .reach))) done
+    let a = c .before .before .before .args in
+    let done : c .before .loop .k ≡ a .n = omega arith in
+    c .before .loop .inv .0 ∙ ap (λ (k : ℕ). closedBelow (a .n) k (now (a .reach))) done
 
 pub close-spec : {M : Type 1} → statement M
 close-spec =

@@ -19,12 +19,15 @@ Inv-loop reach₀ n k at via f₀ reach f = Changing n (λ g set. bitOr set (bit
 abbrev μ-loop : tie.MeasureT-loop
 μ-loop reach₀ n k at via f₀ reach f = n - f
 
--- The places: where the set of k is read, and the loop's head, from the end of a turn.
+-- The places: the entry, from where the set of k is read, the loop's head, from the end of a turn, and that set.
+abbrev start : tie.After-slice-known2 Inv-loop μ-loop → tie.Start Inv-loop μ-loop
+start c = c .before .before .before
+
 abbrev head : tie.After-bit-of Inv-loop μ-loop → tie.At-loop Inv-loop μ-loop
 head c = c .before .before .before .before
 
 abbrev via : tie.After-bit-of Inv-loop μ-loop → ℕ
-via c = let s = head c .before .before .before .before in getD (now (s .args .reach)) (s .args .k .0) 0
+via c = let a = start (head c .before) .args in getD (now (a .reach)) (a .k .0) 0
 
 cast-at : tie.Need-cast-at Inv-loop μ-loop
 cast-at c = omega arith
@@ -36,7 +39,7 @@ slice-read-via : tie.Need-slice-read-via Inv-loop μ-loop
 slice-read-via c = omega arith
 
 loop-holds : tie.Need-loop-holds Inv-loop μ-loop
-loop-holds c = begins (omega (arith, c .before .before .before .pre .0))
+loop-holds c = begins (omega (arith, start c .pre .0))
 
 mul-reach : tie.Need-mul-reach Inv-loop μ-loop
 mul-reach c = omega arith
@@ -55,8 +58,9 @@ bit-of-requires c κs = omega arith
 
 mul-reach-2 : tie.Need-mul-reach-2 Inv-loop μ-loop
 mul-reach-2 c =
+    let d = head c .before in
     let small : c .bit-of .result ≤ 1 = rw (c .bit-of .ensures) (le-of-suc-le-suc (bit-lt _ _)) in
-    omega (arith, mul-le-mul-right (via c) small, one-mul (via c), head c .before .slice-known2 .given (head c .before .before .before .before .args .k .0))
+    omega (arith, mul-le-mul-right (via c) small, one-mul (via c), d .slice-known2 .given (start d .args .k .0))
 
 mul-reach-3 : tie.Need-mul-reach-3 Inv-loop μ-loop
 mul-reach-3 c = omega arith
