@@ -1,4 +1,4 @@
--- The rules (10) to (16) on words: a statement's sets are w words each, its pairs a matrix. The code has w = 1.
+-- The rules (10) to (16) on words: a statement's sets are w words each, its pairs a matrix.
 use mathlib.Core.List.{List}
 use Prim.Native.Nat.{ℕ}
 use Rattle.numbers.specs.Sizes.{matrixWords}

@@ -202,21 +202,6 @@ marks-make-the-matrix w m n e wm wn beyond same =
     either k (yes h) = inside k h
     either k (no h) = beyond k (omega arith)
 
--- a merge into a cleared matrix puts the other in its place; words beyond stay
-joined-replaced : (n : ℕ) (m x : List ℕ) → n ≤ length m → length x ≡ n → joined n (changed n (λ k y. 0) m) x ≡ x ++ drop n m
-unfolding joined changed
-joined-replaced zero m [] h e = refl
-joined-replaced zero m (z ∷ x) h e = absurd (omega arith)
-joined-replaced (suc n) [] x h e = absurd (omega arith)
-joined-replaced (suc n) (y ∷ m) [] h e = absurd (omega arith)
-joined-replaced (suc n) (y ∷ m) (z ∷ x) h e =
-    ap₂ (λ (v : ℕ) (t : List ℕ). v ∷ t) (or-zero-l z) (joined-replaced n m x (le-of-suc-le-suc h) (omega arith))
-
-pub merged-cleared :
-    (w : ℕ) (m x : List ℕ) → matrixWords w ≤ length m → length x ≡ matrixWords w → merged w (cleared w m) x ≡ x ++ drop (matrixWords w) m
-unfolding cleared
-merged-cleared w m x h e = joined-replaced (matrixWords w) m x h e
-
 -- a copy puts the other matrix in the place of this one; words beyond stay
 replaced : (n : ℕ) (f : ℕ → ℕ) (m x : List ℕ) → n ≤ length m → length x ≡ n → ((k : ℕ) → k < n → f k ≡ getD x k 0)
     → changed n (λ k y. f k) m ≡ x ++ drop n m

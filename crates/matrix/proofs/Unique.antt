@@ -6,7 +6,6 @@ use Rattle.matrix.proofs.cross.Reads.{Post as cross-post}
 use Rattle.matrix.proofs.merge.Reads.{Post as merge-post}
 use Rattle.matrix.proofs.copy.Reads.{Post as copy-post}
 use Rattle.matrix.proofs.clear.Reads.{Post as clear-post}
-use Rattle.matrix.proofs.same.Reads.{Post as same-post}
 use Rattle.matrix.proofs.count.Reads.{Post as count-post}
 
 pub cross-determined : (κs a r r' s s' : _) → cross-post κs a r s → cross-post κs a r' s' → now (s .0) ≡ now (s' .0)
@@ -20,9 +19,6 @@ copy-determined κs a r r' s s' p q = p ∙ sym q
 
 pub clear-determined : (κs a r r' s s' : _) → clear-post κs a r s → clear-post κs a r' s' → now (s .0) ≡ now (s' .0)
 clear-determined κs a r r' s s' p q = p ∙ sym q
-
-pub same-determined : (κs a r r' s s' : _) → same-post κs a r s → same-post κs a r' s' → r ≡ r'
-same-determined κs a r r' s s' p q = p ∙ sym q
 
 pub count-determined : (κs a r r' s s' : _) → count-post κs a r s → count-post κs a r' s' → r ≡ r'
 count-determined κs a r r' s s' p q = p ∙ sym q

@@ -7,7 +7,6 @@ ghost use lib.Bits.{bitOr, bitAnd};
 ghost use lib.Count.{ones};
 ghost use lib.ListN.{getD};
 ghost use Rattle.numbers.specs.Sizes.{ours, wordBits, labelCeiling, matrixWords};
-ghost use Rattle.labels.specs.Words.{alike};
 ghost use Rattle.labels.specs.Sets.{member};
 ghost use Rattle.matrix.specs.Matrix.{cleared, merged, copied, crossed, pairsAtOrAbove};
 use labels::Label;
@@ -93,20 +92,6 @@ pub fn copy(matrix: &mut [u64], other: &[u64])
         matrix[i] = word_at(other, i);
         i += 1;
     }
-}
-
-// Whether two matrices mark the same pairs.
-pub fn same(a: &[u64], b: &[u64]) -> bool
-    ensures { λ r. ⌜ r ≡ alike (matrixWords (ours .words)) (now (a .entry)) (now (b .entry)) ⌝ }
-{
-    let mut i = MATRIX_WORDS;
-    while 0 < i {
-        i -= 1;
-        if word_at(a, i) != word_at(b, i) {
-            return false;
-        }
-    }
-    true
 }
 
 // How many pairs of the label with itself and those above it its word marks.
