@@ -1,9 +1,10 @@
--- The pairs of the listing are the marked ones at or above the diagonal, in ascending order: lists in turn are in order if each is and each stands before the next.
--- Assumes nothing.
+-- The pairs of the listing are the marked ones at or above the diagonal, in ascending order: lists in turn are in order if each is
+-- and each stands before the next. Assumes nothing.
 use mathlib.Core.Path.{_≡_, refl, sym, ap, ap₂, _∙_, subst}
 use mathlib.Core.Bool.{Bool, true, false, cond, _&&_}
 use mathlib.Core.Logic.{inl, inr, ⊎-elim}
-use mathlib.Core.List.{List, [], _∷_, _++_, List·Memᴰ, List·Memᴰ·head, List·Memᴰ·not-nil, List·Memᴰ·append-cases, List·Memᴰ·eq-of-singleton, Memᴰ·append-left, Memᴰ·append-right}
+use mathlib.Core.List.{List, [], _∷_, _++_, List·Memᴰ, List·Memᴰ·head, List·Memᴰ·tail, List·Memᴰ·not-nil, List·Memᴰ·append-cases}
+use mathlib.Core.List.{List·Memᴰ·eq-of-singleton, Memᴰ·append-left, Memᴰ·append-right}
 use Prim.Native.Nat.{ℕ, zero, suc, _≤_, _<_}
 use native.Mathlib.Nat.{le-refl, not-suc-le-zero}
 use native.Mathlib.Decide.{decLt}
@@ -48,7 +49,7 @@ ascending-joined :
 ascending-joined [] b x y across = y
 ascending-joined (p ∷ a) b x y across = (
   (λ q h. ⊎-elim (λ l. x .0 q l) (λ r. across p q (List·Memᴰ·head refl) r) (List·Memᴰ·append-cases a h)),
-  ascending-joined a b (x .1) y (λ s q l r. across s q (mathlib.Core.List.List·Memᴰ·tail l) r),
+  ascending-joined a b (x .1) y (λ s q l r. across s q (List·Memᴰ·tail l) r),
 )
 
 ascending-in-turn :

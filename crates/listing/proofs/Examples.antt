@@ -6,9 +6,11 @@ use mathlib.Core.List.{List, [], _∷_}
 use Prim.Native.Nat.{ℕ, _^_}
 use lib.ListN.{replicate, set}
 use Rattle.numbers.specs.General.{inTurn, sumBelow}
+use Rattle.numbers.specs.Sizes.{ours}
 use Rattle.labels.specs.Words.{bit}
 use Rattle.labels.specs.Sets.{member}
 use Rattle.matrix.specs.Matrix.{marked, pairsAtOrAbove}
+use Rattle.text.specs.Bytes.{ascii}
 use Rattle.text.specs.Numbers.{spelled, spelledIn}
 use Rattle.listing.specs.Pairs.{pairAt, pairs}
 use Rattle.listing.specs.Listing.{opening, pairLine, lines, listing}
@@ -17,32 +19,19 @@ use Rattle.listing.specs.Listing.{opening, pairLine, lines, listing}
 whole : List ℕ
 whole = 14 ∷ 5 ∷ 3 ∷ 1 ∷ replicate 60 0
 
-whole-listing :
-    listing 1 whole 1 false
-    ≡ 112 ∷ 97 ∷ 105 ∷ 114 ∷ 115 ∷ 9 ∷ 52 ∷ 9 ∷ 114 ∷ 111 ∷ 117 ∷ 110 ∷ 100 ∷ 115 ∷ 9 ∷ 49 ∷ 9 ∷ 101 ∷ 120 ∷ 97 ∷ 99 ∷ 116 ∷ 10
-    ∷ 48 ∷ 9 ∷ 49 ∷ 10
-    ∷ 48 ∷ 9 ∷ 50 ∷ 10
-    ∷ 48 ∷ 9 ∷ 51 ∷ 10
-    ∷ 49 ∷ 9 ∷ 50 ∷ 10
-    ∷ []
+whole-listing : listing (ours .words) whole 1 false ≡ ascii "pairs\t4\trounds\t1\texact\n0\t1\n0\t2\n0\t3\n1\t2\n"
 unfolding whole listing opening lines pairLine spelled spelledIn inTurn pairAt member bit sumBelow pairsAtOrAbove marked
 whole-listing = refl
 
-itself-listing :
-    listing 1 (1 ∷ replicate 63 0) 1 false
-    ≡ 112 ∷ 97 ∷ 105 ∷ 114 ∷ 115 ∷ 9 ∷ 49 ∷ 9 ∷ 114 ∷ 111 ∷ 117 ∷ 110 ∷ 100 ∷ 115 ∷ 9 ∷ 49 ∷ 9 ∷ 101 ∷ 120 ∷ 97 ∷ 99 ∷ 116 ∷ 10
-    ∷ 48 ∷ 9 ∷ 48 ∷ 10
-    ∷ []
+itself-listing : listing (ours .words) (1 ∷ replicate 63 0) 1 false ≡ ascii "pairs\t1\trounds\t1\texact\n0\t0\n"
 unfolding listing opening lines pairLine spelled spelledIn inTurn pairAt member bit sumBelow pairsAtOrAbove marked
 itself-listing = refl
 
 -- 9 meets 63
-two-digits-lines : lines (pairs 1 (set (set (replicate 64 0) 9 (2 ^ 63)) 63 (2 ^ 9))) ≡ 57 ∷ 9 ∷ 54 ∷ 51 ∷ 10 ∷ []
+two-digits-lines : lines (pairs (ours .words) (set (set (replicate 64 0) 9 (2 ^ 63)) 63 (2 ^ 9))) ≡ ascii "9\t63\n"
 unfolding lines pairLine spelled spelledIn inTurn pairAt member bit
 two-digits-lines = refl
 
-no-pair-listing :
-    listing 1 (replicate 64 0) 12 true
-    ≡ 112 ∷ 97 ∷ 105 ∷ 114 ∷ 115 ∷ 9 ∷ 48 ∷ 9 ∷ 114 ∷ 111 ∷ 117 ∷ 110 ∷ 100 ∷ 115 ∷ 9 ∷ 49 ∷ 50 ∷ 9 ∷ 119 ∷ 105 ∷ 100 ∷ 101 ∷ 10 ∷ []
+no-pair-listing : listing (ours .words) (replicate 64 0) 12 true ≡ ascii "pairs\t0\trounds\t12\twide\n"
 unfolding listing opening lines pairLine spelled spelledIn inTurn pairAt member bit sumBelow pairsAtOrAbove marked
 no-pair-listing = refl

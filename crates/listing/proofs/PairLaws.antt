@@ -45,11 +45,6 @@ unfolding inTurn
 none-in-turn zero f e = refl
 none-in-turn (suc n) f e = ap₂ _++_ (none-in-turn n f (λ k h. e k (omega arith))) (e n (le-refl (suc n)))
 
-pub same-in-turn : (n : ℕ) (f g : ℕ → List Pair) → ((k : ℕ) → k < n → f k ≡ g k) → inTurn n f ≡ inTurn n g
-unfolding inTurn
-same-in-turn zero f g e = refl
-same-in-turn (suc n) f g e = ap₂ _++_ (same-in-turn n f g (λ k h. e k (omega arith))) (e n (le-refl (suc n)))
-
 module _ (f : ℕ → List Pair) where
   abbrev pub linesBelow : ℕ → List ℕ
   linesBelow n = lines (inTurn n f)

@@ -14,7 +14,8 @@ use Rattle.text.proofs.DigitLaws.{digit-bounds, digit-is}
 use Rattle.text.proofs.SpelledLaws.{spelled-alone, spelled-last, spelled-onto}
 use Rattle.text.specs.Fields.{Field, holds, broken, textAt, digitsAt, digitsAfter, numberAt}
 use Rattle.text.proofs.FieldLoops.{tens, digit-bounded, first-digit-short}
-use Rattle.text.proofs.FieldLaws.{text-same, text-other, digits-stop, digits-over, digits-other, digits-next, digits-none, number-first, number-other, none-after-zero, three-after-another}
+use Rattle.text.proofs.FieldLaws.{text-same, text-other, digits-stop, digits-over, digits-other, digits-next, digits-none}
+use Rattle.text.proofs.FieldLaws.{number-first, number-other, none-after-zero, three-after-another}
 
 pub broken-holds-nothing : {n : ℕ} {t : List ℕ} → broken ≡ holds n t → ⊥
 broken-holds-nothing e = let z : _≡_ {A = ℕ} 0 1 = cc in omega arith

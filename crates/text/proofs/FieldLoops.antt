@@ -13,7 +13,8 @@ use lib.Seq.{drop-cons}
 use Rattle.text.specs.Bytes.{digit, isDigit}
 use Rattle.text.proofs.DigitLaws.{digit-bounds}
 use Rattle.text.specs.Fields.{Field, holds, broken, textAt, digitsAt, digitsAfter, numberAt}
-use Rattle.text.proofs.FieldLaws.{text-same, text-other, digits-stop, digits-over, digits-other, digits-next, digits-none, number-first, number-other, none-after-zero, three-after-another}
+use Rattle.text.proofs.FieldLaws.{text-same, text-other, digits-stop, digits-over, digits-other, digits-next, digits-none}
+use Rattle.text.proofs.FieldLaws.{number-first, number-other, none-after-zero, three-after-another}
 
 -- The place lies ahead of the first, and within the bytes if the first does.
 pub record Reached (bytes : List ℕ) (start at : ℕ) : Type 0 where

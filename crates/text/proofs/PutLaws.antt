@@ -1,5 +1,5 @@
--- Texts put one behind the other are their join, put at once, with room for them or without: a store changes one byte, and behind the last byte it changes none.
--- Assumes nothing.
+-- Texts put one behind the other are their join, put at once, with room for them or without: a store changes one byte, and
+-- behind the last byte it changes none. Assumes nothing.
 use mathlib.Core.Path.{_≡_, refl, sym, ap, ap₂, _∙_}
 use mathlib.Core.List.{List, [], _∷_, _++_}
 use Prim.Native.Nat.{ℕ, suc, _+_, _-_, _≤_, _<_, min}

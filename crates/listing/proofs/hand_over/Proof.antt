@@ -14,6 +14,10 @@ use borrow.Author.Needs.{needs}
 use Rattle.listing.proofs.hand_over.Statement.{statement}
 use Rattle.listing.proofs.hand_over.Tie as tie
 
+-- where the listing's length is known: the start of the function
+abbrev start : tie.After-listing-length → tie.Start
+start c = c .before .before .before .before .before
+
 -- the listing of what was lent
 abbrev text : tie.Start → List ℕ
 text s = listing (ours .words) (now (s .args .pairs)) (s .args .rounds) (s .args .wide)
@@ -26,7 +30,7 @@ listing-length-requires c κs = search needs
 
 returns : tie.Need-returns
 returns c =
-    let s = c .before .before .before .before .before .before in
+    let s = start (c .before) in
     (too-long (text s) (length (now (s .args .bytes))) (rw (c .before .listing-length .ensures) at (c .if1 .taken)), (refl, refl))
 
 put-listing-requires : tie.Need-put-listing-requires
@@ -47,7 +51,7 @@ returns-2 c =
     let put = copied .before .before .before .before in
     let room = put .before .before in
     let known = room .before .listing-length .ensures in
-    let s = room .before .before .before .before .before .before in (
+    let s = start (room .before) in (
       ap reply.Length known ∙ fits (text s) (length (now (s .args .bytes))) (rw known at (room .if1 .left)),
       (copied .copy .ensures ∙ copied-laid (ours .words) (now (s .args .matrix)) (now (s .args .pairs)) (s .pre .1) (s .pre .0), put .put-listing .ensures),
     )

@@ -33,10 +33,11 @@ same-length c = search needs
 
 returns : tie.Need-returns
 returns c =
-    let opened = c .before .before .before .before .before .before in
+    let put = c .before .before in
+    let opened = put .before .before .before .before in
     let s = opened .before .before .before .before in
     let room : length (text s) ≤ length (now (s .args .bytes)) = rw (counted s) (s .pre .1) in
-    rw (sym (counted s)) (put-front room (put-behind (opened .put-opening .ensures) (c .before .before .put-pairs .ensures)))
+    rw (sym (counted s)) (put-front room (put-behind (opened .put-opening .ensures) (put .put-pairs .ensures)))
 
 pub put-listing-spec : {M : Type 1} → statement M
 put-listing-spec = tie.close (tie.spec put-opening-requires put-pairs-requires same-length returns)

@@ -64,7 +64,9 @@ put-digits-returns : (t : ℕ) → put-digits-lts.Need-returns (
   put-digits.Post,
 ) (put-digits-at t) put-digits.Post
 put-digits-returns t c =
-    rw (spelled-alone (c .before .before .before .before .before .before .args .n) (c .before .before .before .before .if1 .taken)) (c .before .before .put-digit .ensures)
+    let put = c .before .before in
+    let small = put .before .before in
+    rw (spelled-alone (small .before .before .args .n) (small .if1 .taken)) (put .put-digit .ensures)
 
 put-digits-same-length-2 : (t : ℕ) → put-digits-lts.Need-same-length-2 (
   put-digit-reads.Asked,
@@ -72,7 +74,7 @@ put-digits-same-length-2 : (t : ℕ) → put-digits-lts.Need-same-length-2 (
   put-digits-below t,
   put-digits.Post,
 ) (put-digits-at t) put-digits.Post
-put-digits-same-length-2 t c = c .before .before .put-digit2 .kept .0 ∙ c .before .before .before .before .before .before .put-digits .kept .0
+put-digits-same-length-2 t c = let put = c .before .before in put .put-digit2 .kept .0 ∙ put .before .before .before .before .put-digits .kept .0
 
 put-digits-returns-2 : (t : ℕ) → put-digits-lts.Need-returns-2 (
   put-digit-reads.Asked,
@@ -81,9 +83,10 @@ put-digits-returns-2 : (t : ℕ) → put-digits-lts.Need-returns-2 (
   put-digits.Post,
 ) (put-digits-at t) put-digits.Post
 put-digits-returns-2 t c =
-    let tenth = c .before .before .before .before .before .before in
+    let put = c .before .before in
+    let tenth = put .before .before .before .before in
     rw (spelled-last (tenth .before .before .before .before .args .n) (tenth .before .before .if1 .left))
-    (put-behind (tenth .put-digits .ensures) (c .before .before .put-digit2 .ensures))
+    (put-behind (tenth .put-digits .ensures) (put .put-digit2 .ensures))
 
 pub +put-digits-spec : {M : Type 1} → statement M
 +put-digits-spec = close μ-put-digits λ t. put-digits-lts.spec (

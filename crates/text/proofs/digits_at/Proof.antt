@@ -10,7 +10,8 @@ use mathlib.Core.Bool.{true}
 use borrow.Author.Tests.{not-true, not-false}
 use Rattle.text.specs.Bytes.{isDigit}
 use Rattle.text.proofs.DigitLaws.{digit-bounds}
-use Rattle.text.proofs.FieldLoops.{DigitsLeft, at-start, one-further, room-for-a-digit, digits-end, digits-stopped, too-many-digits, no-digit, one-digit-more}
+use Rattle.text.proofs.FieldLoops.{DigitsLeft, at-start, one-further, room-for-a-digit, digits-end, digits-stopped}
+use Rattle.text.proofs.FieldLoops.{too-many-digits, no-digit, one-digit-more}
 use Rattle.text.proofs.digits_at.Statement.{statement}
 use Rattle.text.proofs.digits_at.Tie as tie
 
@@ -20,14 +21,19 @@ Inv-loop bytes at stop most first next₀ more₀ n₀ next more n = DigitsLeft 
 abbrev μ-loop : tie.MeasureT-loop
 μ-loop bytes at stop most first next₀ more₀ n₀ next more n = length bytes - next
 
-abbrev byte : tie.Else3 Inv-loop μ-loop → ℕ
-byte c = getD (now (c .before .before .before .before .before .before .before .before .args .bytes)) (c .before .before .before .before .before .before .loop .next) 0
+-- where a byte was tested for a digit: the turn's start, and the byte
+abbrev turn : tie.After-is-digit Inv-loop μ-loop → tie.At-loop Inv-loop μ-loop
+turn c = c .before .before .before .before .before
 
-is-one : (c : tie.Else3 Inv-loop μ-loop) → isDigit (byte c) ≡ true
+abbrev byte : tie.After-is-digit Inv-loop μ-loop → ℕ
+byte c = getD (now (turn c .before .before .args .bytes)) (turn c .loop .next) 0
+
+-- past the test
+is-one : (c : tie.Else3 Inv-loop μ-loop) → isDigit (byte (c .before)) ≡ true
 is-one c = sym (c .before .is-digit .ensures) ∙ not-false _ (c .if3 .left)
 
-small : (c : tie.Else3 Inv-loop μ-loop) → c .before .before .before .before .before .before .loop .n < 1000
-small c = room-for-a-digit (c .before .before .before .before .before .before .loop .inv) (c .before .before .if2 .left)
+small : (c : tie.Else3 Inv-loop μ-loop) → turn (c .before) .loop .n < 1000
+small c = room-for-a-digit (turn (c .before) .loop .inv) (c .before .before .if2 .left)
 
 loop-holds : tie.Need-loop-holds Inv-loop μ-loop
 loop-holds c = record { left = refl; short = c .before .pre; reached = at-start _ _ }
@@ -52,7 +58,7 @@ is-digit-requires c κs = tt
 
 returns-3 : tie.Need-returns-3 Inv-loop μ-loop
 returns-3 c =
-    let i = c .before .before .before .before .before .before .loop .inv in
+    let i = turn (c .before) .loop .inv in
     (no-digit i (omega arith) (c .before .before .before .if1 .left) (sym (c .before .is-digit .ensures) ∙ not-true _ (c .if3 .taken)), tt)
 
 mul-n : tie.Need-mul-n Inv-loop μ-loop
@@ -78,9 +84,7 @@ loop-less c = omega arith
 
 loop-again : tie.Need-loop-again Inv-loop μ-loop
 loop-again c =
-    one-digit-more (c .before .before .before .before .before .before .loop .inv) (omega arith) (c .before .before .before .if1 .left)
-    (c .before .before .if2 .left)
-    (is-one c)
+    one-digit-more (turn (c .before) .loop .inv) (omega arith) (c .before .before .before .if1 .left) (c .before .before .if2 .left) (is-one c)
 
 returns-4 : tie.Need-returns-4 Inv-loop μ-loop
 returns-4 c = (digits-end (c .before .loop .inv) (c .loop-test .left), tt)

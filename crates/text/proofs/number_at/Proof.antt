@@ -15,9 +15,11 @@ use Rattle.text.proofs.TokenLaws.{token-found, ahead-before}
 use Rattle.text.proofs.number_at.Statement.{statement}
 use Rattle.text.proofs.number_at.Tie as tie
 
-is-one :
-    (c : tie.Else2)
-    → isDigit (getD (now (c .before .before .before .before .before .args .bytes)) (c .before .before .before .before .before .args .at) 0) ≡ true
+-- where the first byte is a digit: the start of the function
+abbrev start : tie.Else2 → tie.Start
+start c = c .before .before .before .before .before
+
+is-one : (c : tie.Else2) → isDigit (getD (now (start c .args .bytes)) (start c .args .at) 0) ≡ true
 is-one c = sym (c .before .is-digit .ensures) ∙ not-false _ (c .if2 .left)
 
 returns : tie.Need-returns
@@ -51,9 +53,10 @@ digits-at-requires c κs = first-digit-short _ _ (is-one (c .before)) (c .digits
 
 returns-3 : tie.Need-returns-3
 returns-3 c =
-    let a = c .before .before .before .before .before .before .before .args in
-    let h = c .before .before .before .before .before .if1 .left in
-    token-found _ _ _ (c .digits-at .result) (c .digits-at .ensures .0 ∙ number-here _ _ _ h (is-one (c .before .before)) (c .before .digits-after .ensures))
+    let d = c .before .before in
+    let a = start d .args in
+    let h = d .before .before .before .if1 .left in
+    token-found _ _ _ (c .digits-at .result) (c .digits-at .ensures .0 ∙ number-here _ _ _ h (is-one d) (c .before .digits-after .ensures))
     (ahead-before (now (a .bytes)) (a .at) (c .digits-at .result) h (c .digits-at .ensures .1))
 
 pub number-at-spec : {M : Type 1} → statement M

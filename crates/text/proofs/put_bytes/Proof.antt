@@ -29,7 +29,10 @@ loop-less : tie.Need-loop-less Inv-loop μ-loop
 loop-less c = omega arith
 
 loop-again : tie.Need-loop-again Inv-loop μ-loop
-loop-again c = copy-goes-on (c .before .before .before .before .before .before .loop .inv) (c .before .before .before .before .before .loop-test .taken) (c .before .before .put-byte .ensures)
+loop-again c =
+    let put = c .before .before in
+    let turn = put .before .before .before .before in
+    copy-goes-on (turn .loop .inv) (put .before .before .before .loop-test .taken) (put .put-byte .ensures)
 
 same-length : tie.Need-same-length Inv-loop μ-loop
 same-length c = put-keeps (c .before .loop .inv .put)

@@ -15,7 +15,10 @@ same-length : tie.Need-same-length
 same-length c = search needs
 
 returns : tie.Need-returns
-returns c = put-behind (c .before .before .before .before .before .before .put-digits .ensures) (c .before .before .put-byte .ensures)
+returns c =
+    let ended = c .before .before in
+    let spelt = ended .before .before .before .before in
+    put-behind (spelt .put-digits .ensures) (ended .put-byte .ensures)
 
 pub put-number-spec : {M : Type 1} → statement M
 put-number-spec = tie.close (tie.spec put-digits-requires put-byte-requires same-length returns)

@@ -15,7 +15,10 @@ same-length : tie.Need-same-length
 same-length c = search needs
 
 returns : tie.Need-returns
-returns c = put-behind (c .before .before .before .before .before .before .put-bytes .ensures) (c .before .before .put-byte .ensures)
+returns c =
+    let ended = c .before .before in
+    let spelt = ended .before .before .before .before in
+    put-behind (spelt .put-bytes .ensures) (ended .put-byte .ensures)
 
 pub put-text-spec : {M : Type 1} → statement M
 put-text-spec = tie.close (tie.spec put-bytes-requires put-byte-requires same-length returns)

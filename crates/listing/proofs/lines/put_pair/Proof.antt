@@ -20,9 +20,11 @@ same-length c = search needs
 
 returns : tie.Need-returns
 returns c =
-    let s = c .before .before .before .before .before .before .before in
-    let e = sym (c .before .before .before .before .before .is-in .ensures) ∙ c .before .before .before .before .if1 .taken in
-    rw (line-of-marked (s .args .partners ∷ []) (s .args .i .0) (s .args .j .0) (s .pre) e) (c .before .before .put-line .ensures)
+    let put = c .before .before in
+    let marked = put .before .before in
+    let s = marked .before .before .before in
+    let e = sym (marked .before .is-in .ensures) ∙ marked .if1 .taken in
+    rw (line-of-marked (s .args .partners ∷ []) (s .args .i .0) (s .args .j .0) (s .pre) e) (put .put-line .ensures)
 
 returns-2 : tie.Need-returns-2
 returns-2 c =

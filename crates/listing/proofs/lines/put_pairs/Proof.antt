@@ -37,10 +37,11 @@ loop-less c = omega arith
 
 loop-again : tie.Need-loop-again Inv-loop μ-loop
 loop-again c =
-    let l = c .before .before .before .before .before .before .loop in
-    let s = c .before .before .before .before .before .before .before .before .before in
-    let h = c .before .before .before .before .before .loop-test .taken in
-    goes-on (l .inv) h (rw (row-one (now (s .args .matrix)) (l .i) (omega arith)) (c .before .before .put-row .ensures))
+    let put = c .before .before in
+    let turn = put .before .before .before .before in
+    let m = now (turn .before .before .before .args .matrix) in
+    goes-on (turn .loop .inv) (put .before .before .before .loop-test .taken)
+    (rw (row-one m (turn .loop .i) (omega arith)) (put .put-row .ensures))
 
 same-length : tie.Need-same-length Inv-loop μ-loop
 same-length c = keeps (c .before .loop .inv)

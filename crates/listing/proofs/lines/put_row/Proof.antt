@@ -39,7 +39,9 @@ loop-less c = omega arith
 
 loop-again : tie.Need-loop-again Inv-loop μ-loop
 loop-again c =
-    (omega arith, goes-on (c .before .before .before .before .before .loop .inv .1) (c .before .before .before .before .loop-test .taken) (c .before .before .put-pair .ensures))
+    let put = c .before .before in
+    let turn = put .before .before .before in
+    (omega arith, goes-on (turn .loop .inv .1) (put .before .before .loop-test .taken) (put .put-pair .ensures))
 
 same-length : tie.Need-same-length Inv-loop μ-loop
 same-length c = keeps (c .before .loop .inv .1)
