@@ -69,11 +69,11 @@ fn through(reach: &mut [u64], n: usize, k: ProcNumber)
     requires { ⌜ (n ≤ length (now reach)) × ((k .0 < n) × (n ≤ ours .procs)) ⌝ }
     ensures { λ _. ⌜ now (reach .exit) ≡ throughAlso n (k .0) (now (reach .entry)) ⌝ }
 {
-    let at = k.0 as usize;
-    let via = reach[at];
+    let via = reach[k.0 as usize];
     let mut f = 0;
     while f < n {
-        reach[f] = reach[f] | bit_of(reach[f], k) * via;
+        let set = reach[f];
+        reach[f] = set | bit_of(set, k) * via;
         f += 1;
     }
 }

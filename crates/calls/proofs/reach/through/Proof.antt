@@ -14,23 +14,23 @@ use Rattle.calls.proofs.reach.through.Statement.{statement}
 use Rattle.calls.proofs.reach.through.Tie as tie
 
 abbrev Inv-loop : tie.InvT-loop
-Inv-loop reach₀ n k at via f₀ reach f = Changing n (λ g set. bitOr set (bit set (k .0) * via)) reach₀ n reach f
+Inv-loop reach₀ n k via f₀ reach f = Changing n (λ g set. bitOr set (bit set (k .0) * via)) reach₀ n reach f
 
 abbrev μ-loop : tie.MeasureT-loop
-μ-loop reach₀ n k at via f₀ reach f = n - f
+μ-loop reach₀ n k via f₀ reach f = n - f
 
 -- The places: the entry, from where the set of k is read, the loop's head, from the end of a turn, and that set.
 abbrev start : tie.After-slice-known2 Inv-loop μ-loop → tie.Start Inv-loop μ-loop
 start c = c .before .before .before
 
 abbrev head : tie.After-bit-of Inv-loop μ-loop → tie.At-loop Inv-loop μ-loop
-head c = c .before .before .before .before
+head c = c .before .before .before
 
 abbrev via : tie.After-bit-of Inv-loop μ-loop → ℕ
 via c = let a = start (head c .before) .args in getD (now (a .reach)) (a .k .0) 0
 
-cast-at : tie.Need-cast-at Inv-loop μ-loop
-cast-at c = omega arith
+cast-via : tie.Need-cast-via Inv-loop μ-loop
+cast-via c = omega arith
 
 mul-via : tie.Need-mul-via Inv-loop μ-loop
 mul-via c = omega arith
@@ -41,29 +41,23 @@ slice-read-via c = omega arith
 loop-holds : tie.Need-loop-holds Inv-loop μ-loop
 loop-holds c = begins (omega (arith, start c .pre .0))
 
-mul-reach : tie.Need-mul-reach Inv-loop μ-loop
-mul-reach c = omega arith
+mul-set : tie.Need-mul-set Inv-loop μ-loop
+mul-set c = omega arith
 
-slice-read-reach : tie.Need-slice-read-reach Inv-loop μ-loop
-slice-read-reach c = omega arith
-
-mul-bit-of : tie.Need-mul-bit-of Inv-loop μ-loop
-mul-bit-of c = omega arith
-
-slice-read-bit-of : tie.Need-slice-read-bit-of Inv-loop μ-loop
-slice-read-bit-of c = omega arith
+slice-read-set : tie.Need-slice-read-set Inv-loop μ-loop
+slice-read-set c = omega arith
 
 bit-of-requires : tie.Need-bit-of-requires Inv-loop μ-loop
 bit-of-requires c κs = omega arith
 
-mul-reach-2 : tie.Need-mul-reach-2 Inv-loop μ-loop
-mul-reach-2 c =
+mul-reach : tie.Need-mul-reach Inv-loop μ-loop
+mul-reach c =
     let d = head c .before in
     let small : c .bit-of .result ≤ 1 = rw (c .bit-of .ensures) (le-of-suc-le-suc (bit-lt _ _)) in
     omega (arith, mul-le-mul-right (via c) small, one-mul (via c), d .slice-known2 .given (start d .args .k .0))
 
-mul-reach-3 : tie.Need-mul-reach-3 Inv-loop μ-loop
-mul-reach-3 c = omega arith
+mul-reach-2 : tie.Need-mul-reach-2 Inv-loop μ-loop
+mul-reach-2 c = omega arith
 
 slice-write-reach : tie.Need-slice-write-reach Inv-loop μ-loop
 slice-write-reach c = omega arith
@@ -77,7 +71,7 @@ loop-less c = omega arith
 loop-again : tie.Need-loop-again Inv-loop μ-loop
 loop-again c =
     let l = head c .loop in
-    goes-on (l .inv) (c .before .before .before .loop-test .taken) (ap (λ (b : ℕ). bitOr (getD (l .reach) (l .f) 0) (b * via c)) (c .bit-of .ensures))
+    goes-on (l .inv) (c .before .before .loop-test .taken) (ap (λ (b : ℕ). bitOr (getD (l .reach) (l .f) 0) (b * via c)) (c .bit-of .ensures))
 
 same-length : tie.Need-same-length Inv-loop μ-loop
 same-length c = c .before .loop .inv .size
@@ -91,17 +85,15 @@ through-spec =
     (tie.spec
     Inv-loop
     μ-loop
-    cast-at
+    cast-via
     mul-via
     slice-read-via
     loop-holds
-    mul-reach
-    slice-read-reach
-    mul-bit-of
-    slice-read-bit-of
+    mul-set
+    slice-read-set
     bit-of-requires
+    mul-reach
     mul-reach-2
-    mul-reach-3
     slice-write-reach
     add-f
     loop-less
