@@ -1,27 +1,33 @@
--- The first n entries of the copied columns are the table of the rows, where there are n of them and a table can have that many, since the copy says so of each field.
+-- The first n entries of the copied columns are the table of the rows, where there are n of them and a table can have that many, since each column begins with a field of all rows.
 -- Assumes nothing.
 use mathlib.Core.Path.{_≡_, sym, ap, _∙_}
-use mathlib.Core.List.{List}
+use mathlib.Core.List.{List, map}
 use Prim.Native.Nat.{ℕ, _≤_}
 use native.Mathlib.Omega.{arith}
-use lib.ListN.{length, take}
+use lib.ListN.{length, take, length-map}
 use lib.Seq.{length-take-le}
-use Rattle.numbers.specs.Ceilings.{rowCeiling}
+use Rattle.numbers.specs.Sizes.{rowCeiling}
 use Rattle.recipe.specs.Records.{tableOfRows}
 use Rattle.recipe.specs.Tables.{tableOf}
 use Rattle.recipe.specs.declared.Row.{Row}
-use Rattle.records.specs.Copying.{Copies}
-use Rattle.records.specs.declared.Columns.{Columns}
+use Rattle.table.specs.Storing.{column, columnsOf}
+use Rattle.table.specs.declared.Columns.{Columns}
+use Rattle.table.proofs.Laying.{column-begins}
 use Rattle.records.proofs.Agreement.{same-table}
 
-pub first-are :
-    (n : ℕ) (c : Columns) (rows : List Row) (roots : List ℕ) → n ≤ rowCeiling → length rows ≡ n → Copies c rows
-    → tableOf (take n (c .kinds)) (take n (c .xs)) (take n (c .ys)) roots ≡ tableOfRows rows roots
-first-are n c rows roots fits e copies =
-    let h = copies (omega arith) in
-    ap (λ (k : ℕ). tableOf (take k (c .kinds)) (take k (c .xs)) (take k (c .ys)) roots) (sym e)
-    ∙ same-table rows (take (length rows) (c .kinds)) (take (length rows) (c .xs)) (take (length rows) (c .ys)) roots (h .0) (h .1) (h .2)
+module _ (n : ℕ) (rows : List Row) (fits : n ≤ rowCeiling) (many : length rows ≡ n) where
+  first-of : (field : Row → ℕ) → take n (column (map field rows)) ≡ map field rows
+  first-of field =
+      ap (λ (k : ℕ). take k (column (map field rows))) (sym (length-map rows field ∙ many))
+      ∙ column-begins (map field rows) (omega (arith, length-map rows field))
+
+  pub first-are :
+      (c : Columns) (roots : List ℕ) → c ≡ columnsOf rows
+      → tableOf (take n (c .kinds)) (take n (c .xs)) (take n (c .ys)) roots ≡ tableOfRows rows roots
+  first-are c roots copied =
+      ap (λ (d : Columns). tableOf (take n (d .kinds)) (take n (d .xs)) (take n (d .ys)) roots) copied
+      ∙ same-table rows _ _ _ roots (first-of (λ (r : Row). r .kind)) (first-of (λ (r : Row). r .x)) (first-of (λ (r : Row). r .y))
 
 -- The first n entries of a column are n.
-pub first-n : (n : ℕ) (column : List ℕ) → length column ≡ 1024 → n ≤ rowCeiling → n ≡ length (take n column)
-first-n n column e fits = sym (length-take-le n column (omega arith))
+pub first-n : (n : ℕ) (numbers : List ℕ) → length numbers ≡ rowCeiling → n ≤ rowCeiling → n ≡ length (take n numbers)
+first-n n numbers e fits = sym (length-take-le n numbers (omega arith))

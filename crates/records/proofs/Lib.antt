@@ -1,7 +1,6 @@
 pub mod Agreement
 pub mod CopiedTable
-pub mod CopyCall
-pub mod Examples
-pub mod StoredColumns
+pub mod Refusals
+pub mod Taking
 pub mod TooMany
 pub mod Unique

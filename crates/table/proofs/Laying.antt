@@ -5,16 +5,16 @@ use mathlib.Core.List.{List, [], _∷_, _++_, map}
 use Prim.Native.Nat.{ℕ, suc, _≤_, _<_, min}
 use native.Mathlib.Numerals.{add-one}
 use native.Mathlib.Omega.{arith}
-use lib.ListN.{length, getD, set, drop, length-append, length-replicate, length-map}
-use lib.Seq.{drop-cons, set-at, append-snoc}
+use lib.ListN.{length, getD, set, take, drop, length-append, length-replicate, length-map}
+use lib.Seq.{drop-cons, set-at, append-snoc, take-append-seam}
 use Rattle.numbers.specs.General.{laid}
 use Rattle.numbers.specs.Sizes.{ours, rowCeiling}
 use Rattle.recipe.specs.declared.Row.{Row}
 use Rattle.table.specs.Reading.{Reading, table, refused, rowsOf, rootsOf, replyOf, rowCount, rootCount}
-use Rattle.table.specs.Storing.{overlaid, blank, noRows, noRoots, heldOf}
+use Rattle.table.specs.Storing.{overlaid, zeros, blank, noRows, noRoots, heldOf, column}
 use Rattle.table.specs.declared.Held.{Held}
 use Rattle.table.specs.declared.Read.the-variants.{Stored}
-use Rattle.table.proofs.Overlaid.{overlaid-front}
+use Rattle.table.proofs.Overlaid.{overlaid-all, overlaid-front}
 
 -- One element more at the front.
 pub laid-next : {A : Type 0} (front old : List A) (x : A) (n : ℕ) → n ≡ length front → n < length old → set (laid front old) n x ≡ laid (front ++ (x ∷ [])) old
@@ -87,3 +87,10 @@ module _ (w : Reading) {h : Held} (held : h ≡ heldOf w) where
     where
       many : n ≡ length (rootsOf w)
       many = e ∙ ap (λ (k : Held). rootCount (k .reply)) held ∙ root-count w
+
+-- A column begins with its numbers, where a table can have that many rows.
+pub column-begins : (numbers : List ℕ) → length numbers ≤ rowCeiling → take (length numbers) (column numbers) ≡ numbers
+unfolding zeros
+column-begins numbers h =
+    ap (take (length numbers)) (overlaid-all rowCeiling numbers (zeros rowCeiling) h (omega (arith, length-replicate {A = ℕ} rowCeiling 0)))
+    ∙ take-append-seam numbers (drop (length numbers) (zeros rowCeiling))

@@ -4,3 +4,4 @@ pub mod Replies
 pub mod CountedLoop
 pub mod LocalArray
 pub mod RowMemory
+pub mod CopyCall

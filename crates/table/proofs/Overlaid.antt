@@ -7,7 +7,7 @@ use native.Mathlib.Nat.{suc-min-suc, zero-min, min-zero}
 use native.Mathlib.Numerals.{add-one}
 use native.Mathlib.Omega.{arith}
 use lib.ListN.{length, getD, set, take, drop, length-set, length-append, length-map, List·getD-map}
-use lib.Seq.{drop-cons, take-suc, set-at, length-take-le, take-append-seam}
+use lib.Seq.{drop-cons, take-suc, set-at, length-take-le, take-length, take-append-seam}
 use Rattle.numbers.specs.General.{laid}
 use Rattle.table.specs.Storing.{overlaid}
 
@@ -30,6 +30,12 @@ module _ {A : Type 0} where
       overlaid-is n new old
       ∙ ap (λ (k : ℕ). take k new ++ drop k old) e
       ∙ ap (λ (k : ℕ). take n new ++ drop k old) (sym (length-take-le n new p))
+
+  -- Where all new ones fit, they are laid down.
+  pub overlaid-all : (n : ℕ) (new old : List A) → length new ≤ n → length new ≤ length old → overlaid n new old ≡ laid new old
+  overlaid-all n new old p q =
+      let e : min (min n (length new)) (length old) ≡ length new = omega arith in
+      overlaid-is n new old ∙ ap (λ (k : ℕ). take k new ++ drop k old) e ∙ ap (λ (l : List A). l ++ drop (length new) old) (take-length new)
 
   -- What stands at the front is laid down, whatever follows it.
   pub overlaid-front : (n : ℕ) (front more old : List A) → n ≡ length front → n ≤ length old → overlaid n (front ++ more) old ≡ laid front old

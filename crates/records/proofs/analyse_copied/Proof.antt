@@ -4,6 +4,7 @@ use mathlib.Core.Path.{_≡_, ap, _∙_}
 use native.Mathlib.Omega.{arith}
 use lib.ListN.{length}
 use denote.Ref.{now}
+use Rattle.numbers.specs.Sizes.{ours, rowCeiling}
 use Rattle.recipe.specs.Tables.{Table}
 use Rattle.analysis.specs.Replies.{analysed, matrixAfter}
 use Rattle.records.proofs.CopiedTable.{first-are, first-n}
@@ -15,22 +16,22 @@ use Rattle.records.proofs.analyse_copied.Tie as tie
 returns : tie.Need-returns
 returns c =
     let a = c .before .before .before .args in
-    λ rows e copies. too-many rows (now (a .roots)) (now (a .matrix)) (omega arith)
+    λ rows e copied. too-many ours rows (now (a .roots)) (now (a .matrix)) (omega arith)
 
 array-share-prefix-kinds : tie.Need-array-share-prefix-kinds
-array-share-prefix-kinds c = let e : length (c .before .before .before .before .before .before .args .all .kinds) ≡ 1024 = search needs in omega arith
+array-share-prefix-kinds c = let e : length (c .before .before .before .before .before .before .args .all .kinds) ≡ rowCeiling = search needs in omega arith
 
 slice-aggregate-analyse : tie.Need-slice-aggregate-analyse
 slice-aggregate-analyse c = first-n _ _ (search needs) (omega arith)
 
 array-share-prefix-xs : tie.Need-array-share-prefix-xs
-array-share-prefix-xs c = let e : length (c .before .before .before .before .before .before .before .args .all .xs) ≡ 1024 = search needs in omega arith
+array-share-prefix-xs c = let e : length (c .before .before .before .before .before .before .before .args .all .xs) ≡ rowCeiling = search needs in omega arith
 
 slice-aggregate-analyse-2 : tie.Need-slice-aggregate-analyse-2
 slice-aggregate-analyse-2 c = first-n _ _ (search needs) (omega arith)
 
 array-share-prefix-ys : tie.Need-array-share-prefix-ys
-array-share-prefix-ys c = let e : length (c .before .before .before .before .before .before .before .before .args .all .ys) ≡ 1024 = search needs in omega arith
+array-share-prefix-ys c = let e : length (c .before .before .before .before .before .before .before .before .args .all .ys) ≡ rowCeiling = search needs in omega arith
 
 slice-aggregate-analyse-3 : tie.Need-slice-aggregate-analyse-3
 slice-aggregate-analyse-3 c = first-n _ _ (search needs) (omega arith)
@@ -44,10 +45,10 @@ same-length c = search needs
 returns-2 : tie.Need-returns-2
 returns-2 c =
     let a = c .before .before .before .before .before .before .before .before .before .before .before .before .before .args in
-    λ rows e copies.
-    let same = first-are (a .n) (a .all) rows (now (a .roots)) (omega arith) e copies in (
-      c .before .before .analyse .ensures .0 ∙ ap (λ (t : Table). analysed t (length (now (a .matrix)))) same,
-      c .before .before .analyse .ensures .1 ∙ ap (λ (t : Table). matrixAfter t (now (a .matrix))) same,
+    λ rows e copied.
+    let same = first-are (a .n) rows (omega arith) e (a .all) (now (a .roots)) copied in (
+      c .before .before .analyse .ensures .0 ∙ ap (λ (t : Table). analysed ours t (length (now (a .matrix)))) same,
+      c .before .before .analyse .ensures .1 ∙ ap (λ (t : Table). matrixAfter ours t (now (a .matrix))) same,
     )
 
 pub analyse-copied-spec : {M : Type 1} → statement M

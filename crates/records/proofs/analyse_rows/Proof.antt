@@ -43,15 +43,16 @@ use Rattle.analysis.specs.declared.Analysed.{Analysed}
 use Rattle.analysis.proofs.Analysed as S
 use Rattle.analysis.proofs.Analysed.Laws as S′
 use Rattle.records.specs.Records.{Answers}
-use Rattle.records.specs.Copying.{Copies}
-use Rattle.records.specs.declared.Columns.{Columns}
-use Rattle.records.proofs.Columns as Cl
-use Rattle.records.proofs.Columns.Laws as Cl′
-use Rattle.memory.proofs.RowMemory.{R}
-use Rattle.records.proofs.CopyCall.{lent, Lent, CopyIn, copies}
-use Rattle.records.proofs.copy_in.Symbol as copy-in-def
-use Rattle.records.proofs.copy_in.Symbol.{name as #records·copy-in}
-use Rattle.records.proofs.copy_in.Met as copy-in-thm
+use Rattle.numbers.specs.Sizes.{ours}
+use Rattle.table.specs.Storing.{columnsOf}
+use Rattle.table.specs.declared.Columns.{Columns}
+use Rattle.table.proofs.Columns as Cl
+use Rattle.table.proofs.Columns.Laws as Cl′
+use Rattle.table.proofs.RowMemory.{R}
+use Rattle.table.proofs.CopyCall.{lent, Lent, CopyIn, copies}
+use Rattle.table.proofs.copy_in.Symbol as copy-in-def
+use Rattle.table.proofs.copy_in.Symbol.{name as #table·copy-in}
+use Rattle.table.proofs.copy_in.Met as copy-in-thm
 use Rattle.records.proofs.analyse_copied as copied
 use Rattle.records.proofs.analyse_copied.Symbol as copied-def
 use Rattle.records.proofs.analyse_copied.Symbol.{name as #records·analyse-copied}
@@ -93,7 +94,7 @@ module _ {M : Type 1} (𝓤 : URA M) (H : Heap 𝓤) (A : Atoms 𝓤) (W : Given
   abbrev OwnY : Fml
   OwnY = ShrSlice (named 1) κ′ u16 .own y (vy ∷ [])
 
-  exits : (r : Analysed) (u : Val) (m : List ℕ) → Answers (now x) (now y) (now z) r m → length m ≡ length (now z)
+  exits : (r : Analysed) (u : Val) (m : List ℕ) → Answers ours (now x) (now y) (now z) r m → length m ≡ length (now z)
       → ent 𝓤 (⋆ 𝓤 H A (‵ (finally u64 (name z) m) ∷ ‵ (S.the-row .own r (u ∷ [])) ∷ (‵ (flft κ′ q′) ⊛ ‵ (flft κ″ q″) ⊛ ‵ ftrue) ∷ ‵ (flft κ q) ∷ ‵ OwnX ∷ ‵ OwnY ∷ [])) (Post u)
   exits r u m e l =
       qed W (‵ (finally u64 (name z) m) ∷ ‵ (S.the-row .own r (u ∷ [])) ∷ (‵ (flft κ′ q′) ⊛ ‵ (flft κ″ q″) ⊛ ‵ ftrue) ∷ ‵ (flft κ q) ∷ ‵ OwnX ∷ ‵ OwnY ∷ []) ∵
@@ -116,9 +117,9 @@ module _ {M : Type 1} (𝓤 : URA M) (H : Heap 𝓤) (A : Atoms 𝓤) (W : Given
 
   -- what it says of a reply and of the matrix's last list
   abbrev Said : Columns → Analysed → List ℕ → Type 0
-  Said c r m = (rows : List Row) → length rows ≡ length (now x) → Copies c rows → Answers rows (now y) (now z) r m
+  Said c r m = (rows : List Row) → length rows ≡ length (now x) → c ≡ columnsOf rows → Answers ours rows (now y) (now z) r m
 
-  module _ (𝓣 : Tables 𝓤 H) (known-in : Triple 𝓤 (𝓣 .C #records·copy-in) (CopyIn 𝓤 H A mem run)) (known-copied : Triple 𝓤 (𝓣 .C #records·analyse-copied) (Copied 𝓤 H A mem run)) where
+  module _ (𝓣 : Tables 𝓤 H) (known-in : Triple 𝓤 (𝓣 .C #table·copy-in) (CopyIn 𝓤 H A mem run)) (known-copied : Triple 𝓤 (𝓣 .C #records·analyse-copied) (Copied 𝓤 H A mem run)) where
     walk : Room R (length (now x)) → Room u16 (length (now y)) → Room u64 (length (now z))
         → ent 𝓤 (onEntry 𝓤 H A entry.signature (κ, (κ′, (κ″, tt))) (q, (q′, (q″, tt))) (x, (y, (z, tt))) (vx ∷ [], (vy ∷ [], (vz ∷ [], tt)))) (WpFn 𝓤 H (𝓣 .C) (𝓣 .Λ) code.function (vx ∷ vy ∷ vz ∷ []) Post)
     walk roomx roomy roomz =
@@ -154,7 +155,7 @@ module _ {M : Type 1} (𝓤 : URA M) (H : Heap 𝓤) (A : Atoms 𝓤) (W : Given
         move ! (4 ∷ []) $ split ! $ keep ! (4 ∷ 2 ∷ 3 ∷ 0 ∷ 7 ∷ 6 ∷ []) $ by ! (exits r u (ws .1 .1 .1 .0) (e (now x) refl copied-right) l))))))))))))))))
 
 module _ {M : Type 1} (𝓤 : URA M) (H : Heap 𝓤) (A : Atoms 𝓤) (W : Given 𝓤 H A) (mem : Memory → SProp 𝓤) (run : Routine → Fun 𝓤) (𝓣 : Tables 𝓤 H)
-    (known-in : Triple 𝓤 (𝓣 .C #records·copy-in) (CopyIn 𝓤 H A mem run)) (known-copied : Triple 𝓤 (𝓣 .C #records·analyse-copied) (Copied 𝓤 H A mem run)) where
+    (known-in : Triple 𝓤 (𝓣 .C #table·copy-in) (CopyIn 𝓤 H A mem run)) (known-copied : Triple 𝓤 (𝓣 .C #records·analyse-copied) (Copied 𝓤 H A mem run)) where
   analyse-rows-walks : Walks 𝓤 H A entry.ended stayed (WpFn 𝓤 H (𝓣 .C) (𝓣 .Λ) code.function) (entry.clauses 𝓤 H A mem run)
   analyse-rows-walks = walked 𝓤 H A entry.ended stayed (entry.clauses 𝓤 H A mem run) (WpFn 𝓤 H (𝓣 .C) (𝓣 .Λ) code.function)
       (λ κs. (slice-vals, (slice-vals, (slice-vals, tt)))) (λ κs. (shr-slice-tells (named 0) (κs .0) R, (shr-slice-tells (named 1) (κs .1 .0) u16, (mut-slice-tells (named 2) (κs .1 .1 .0) u64, tt))))
@@ -172,5 +173,5 @@ analyse-rows-spec 𝓤 H 𝓜 𝓖 𝓡 =
     entered 𝓤 H (tripleOf 𝓤 H (𝓖 .A) entry.signature (entry.spec 𝓤 H (𝓖 .A) (𝓜 .mem) (𝓡 .run)))
     (tables 𝓤 H 𝓜 𝓡 code.env .C) (tables 𝓤 H 𝓜 𝓡 code.env .Λ) #records·analyse-rows code.function (code.unfolded 𝓤 H 𝓜 𝓡)
     (analyse-rows-meets 𝓤 H (𝓖 .A) (givenOf 𝓤 H 𝓜 𝓖) (𝓜 .mem) (𝓡 .run) (tablesOf 𝓤 H 𝓜 (tables 𝓤 H 𝓜 𝓡 code.env))
-    (cited 𝓤 H (CopyIn 𝓤 H (𝓖 .A) (𝓜 .mem) (𝓡 .run)) 𝓜 𝓡 code.env #records·copy-in copy-in-def.routine code.calls-records·copy-in (copy-in-thm.met 𝓤 H 𝓜 𝓖 𝓡))
+    (cited 𝓤 H (CopyIn 𝓤 H (𝓖 .A) (𝓜 .mem) (𝓡 .run)) 𝓜 𝓡 code.env #table·copy-in copy-in-def.routine code.calls-table·copy-in (copy-in-thm.met 𝓤 H 𝓜 𝓖 𝓡))
     (cited 𝓤 H (Copied 𝓤 H (𝓖 .A) (𝓜 .mem) (𝓡 .run)) 𝓜 𝓡 code.env #records·analyse-copied copied-def.routine code.calls-records·analyse-copied (copied-thm.met 𝓤 H 𝓜 𝓖 𝓡)))

@@ -4,6 +4,7 @@ use mathlib.Core.Path.{_≡_, ap, _∙_}
 use native.Mathlib.Omega.{arith}
 use lib.ListN.{length}
 use denote.Ref.{now}
+use Rattle.numbers.specs.Sizes.{ours, rowCeiling}
 use Rattle.recipe.specs.Tables.{Table}
 use Rattle.listing.specs.Replies.{listed, matrixListed, bytesListed}
 use Rattle.records.proofs.CopiedTable.{first-are, first-n}
@@ -15,22 +16,22 @@ use Rattle.records.proofs.list_copied.Tie as tie
 returns : tie.Need-returns
 returns c =
     let a = c .before .before .before .before .args in
-    λ rows e copies. too-many-listed rows (now (a .roots)) (now (a .matrix)) (omega arith) (now (a .bytes))
+    λ rows e copied. too-many-listed ours rows (now (a .roots)) (now (a .matrix)) (omega arith) (now (a .bytes))
 
 array-share-prefix-kinds : tie.Need-array-share-prefix-kinds
-array-share-prefix-kinds c = let e : length (c .before .before .before .before .before .before .before .args .all .kinds) ≡ 1024 = search needs in omega arith
+array-share-prefix-kinds c = let e : length (c .before .before .before .before .before .before .before .args .all .kinds) ≡ rowCeiling = search needs in omega arith
 
 slice-aggregate-list-pairs : tie.Need-slice-aggregate-list-pairs
 slice-aggregate-list-pairs c = first-n _ _ (search needs) (omega arith)
 
 array-share-prefix-xs : tie.Need-array-share-prefix-xs
-array-share-prefix-xs c = let e : length (c .before .before .before .before .before .before .before .before .args .all .xs) ≡ 1024 = search needs in omega arith
+array-share-prefix-xs c = let e : length (c .before .before .before .before .before .before .before .before .args .all .xs) ≡ rowCeiling = search needs in omega arith
 
 slice-aggregate-list-pairs-2 : tie.Need-slice-aggregate-list-pairs-2
 slice-aggregate-list-pairs-2 c = first-n _ _ (search needs) (omega arith)
 
 array-share-prefix-ys : tie.Need-array-share-prefix-ys
-array-share-prefix-ys c = let e : length (c .before .before .before .before .before .before .before .before .before .args .all .ys) ≡ 1024 = search needs in omega arith
+array-share-prefix-ys c = let e : length (c .before .before .before .before .before .before .before .before .before .args .all .ys) ≡ rowCeiling = search needs in omega arith
 
 slice-aggregate-list-pairs-3 : tie.Need-slice-aggregate-list-pairs-3
 slice-aggregate-list-pairs-3 c = first-n _ _ (search needs) (omega arith)
@@ -48,11 +49,11 @@ returns-2 : tie.Need-returns-2
 returns-2 c =
     let a = c .before .before .before .before .before .before .before .before .before .before .before .before .before .before .before .before .before .args in
     let given = c .before .before .before .before .list-pairs .ensures in
-    λ rows e copies.
-    let same = first-are (a .n) (a .all) rows (now (a .roots)) (omega arith) e copies in (
-      given .0 ∙ ap (λ (t : Table). listed t (length (now (a .matrix))) (length (now (a .bytes)))) same,
-      given .1 .0 ∙ ap (λ (t : Table). matrixListed t (now (a .matrix)) (length (now (a .bytes)))) same,
-      given .1 .1 ∙ ap (λ (t : Table). bytesListed t (length (now (a .matrix))) (now (a .bytes))) same,
+    λ rows e copied.
+    let same = first-are (a .n) rows (omega arith) e (a .all) (now (a .roots)) copied in (
+      given .0 ∙ ap (λ (t : Table). listed ours t (length (now (a .matrix))) (length (now (a .bytes)))) same,
+      given .1 .0 ∙ ap (λ (t : Table). matrixListed ours t (now (a .matrix)) (length (now (a .bytes)))) same,
+      given .1 .1 ∙ ap (λ (t : Table). bytesListed ours t (length (now (a .matrix))) (now (a .bytes))) same,
     )
 
 pub list-copied-spec : {M : Type 1} → statement M

@@ -43,15 +43,16 @@ use Rattle.listing.specs.declared.Listed.{Listed}
 use Rattle.listing.proofs.Listed as S
 use Rattle.listing.proofs.Listed.Laws as S′
 use Rattle.records.specs.Records.{Lists}
-use Rattle.records.specs.Copying.{Copies}
-use Rattle.records.specs.declared.Columns.{Columns}
-use Rattle.records.proofs.Columns as Cl
-use Rattle.records.proofs.Columns.Laws as Cl′
-use Rattle.memory.proofs.RowMemory.{R}
-use Rattle.records.proofs.CopyCall.{lent, Lent, CopyIn, copies}
-use Rattle.records.proofs.copy_in.Symbol as copy-in-def
-use Rattle.records.proofs.copy_in.Symbol.{name as #records·copy-in}
-use Rattle.records.proofs.copy_in.Met as copy-in-thm
+use Rattle.numbers.specs.Sizes.{ours}
+use Rattle.table.specs.Storing.{columnsOf}
+use Rattle.table.specs.declared.Columns.{Columns}
+use Rattle.table.proofs.Columns as Cl
+use Rattle.table.proofs.Columns.Laws as Cl′
+use Rattle.table.proofs.RowMemory.{R}
+use Rattle.table.proofs.CopyCall.{lent, Lent, CopyIn, copies}
+use Rattle.table.proofs.copy_in.Symbol as copy-in-def
+use Rattle.table.proofs.copy_in.Symbol.{name as #table·copy-in}
+use Rattle.table.proofs.copy_in.Met as copy-in-thm
 use Rattle.records.proofs.list_copied as copied
 use Rattle.records.proofs.list_copied.Symbol as copied-def
 use Rattle.records.proofs.list_copied.Symbol.{name as #records·list-copied}
@@ -97,7 +98,7 @@ module _ {M : Type 1} (𝓤 : URA M) (H : Heap 𝓤) (A : Atoms 𝓤) (W : Given
   abbrev OwnY : Fml
   OwnY = ShrSlice (named 1) κ′ u16 .own y (vy ∷ [])
 
-  exits : (r : Listed) (u : Val) (m t : List ℕ) → Lists (now x) (now y) (now z) (now b) r m t → length m ≡ length (now z) → length t ≡ length (now b)
+  exits : (r : Listed) (u : Val) (m t : List ℕ) → Lists ours (now x) (now y) (now z) (now b) r m t → length m ≡ length (now z) → length t ≡ length (now b)
       → ent 𝓤 (⋆ 𝓤 H A (‵ (finally u64 (name z) m) ∷ ‵ (finally u8 (name b) t) ∷ ‵ (S.the-row .own r (u ∷ [])) ∷ (‵ (flft κ′ q′) ⊛ ‵ (flft κ″ q″) ⊛ ‵ (flft κ‴ q‴) ⊛ ‵ ftrue) ∷ ‵ (flft κ q) ∷ ‵ OwnX ∷ ‵ OwnY ∷ [])) (Post u)
   exits r u m t e l l′ =
       qed W (‵ (finally u64 (name z) m) ∷ ‵ (finally u8 (name b) t) ∷ ‵ (S.the-row .own r (u ∷ [])) ∷ (‵ (flft κ′ q′) ⊛ ‵ (flft κ″ q″) ⊛ ‵ (flft κ‴ q‴) ⊛ ‵ ftrue) ∷ ‵ (flft κ q) ∷ ‵ OwnX ∷ ‵ OwnY ∷ []) ∵
@@ -124,9 +125,9 @@ module _ {M : Type 1} (𝓤 : URA M) (H : Heap 𝓤) (A : Atoms 𝓤) (W : Given
 
   -- what it says of a reply and of the last lists of the matrix and the bytes
   abbrev Said : Columns → Listed → List ℕ → List ℕ → Type 0
-  Said c r m t = (rows : List Row) → length rows ≡ length (now x) → Copies c rows → Lists rows (now y) (now z) (now b) r m t
+  Said c r m t = (rows : List Row) → length rows ≡ length (now x) → c ≡ columnsOf rows → Lists ours rows (now y) (now z) (now b) r m t
 
-  module _ (𝓣 : Tables 𝓤 H) (known-in : Triple 𝓤 (𝓣 .C #records·copy-in) (CopyIn 𝓤 H A mem run)) (known-copied : Triple 𝓤 (𝓣 .C #records·list-copied) (Copied 𝓤 H A mem run)) where
+  module _ (𝓣 : Tables 𝓤 H) (known-in : Triple 𝓤 (𝓣 .C #table·copy-in) (CopyIn 𝓤 H A mem run)) (known-copied : Triple 𝓤 (𝓣 .C #records·list-copied) (Copied 𝓤 H A mem run)) where
     walk : Room R (length (now x)) → Room u16 (length (now y)) → Room u64 (length (now z)) → Room u8 (length (now b))
         → ent 𝓤 (onEntry 𝓤 H A entry.signature (κ, (κ′, (κ″, (κ‴, tt)))) (q, (q′, (q″, (q‴, tt)))) (x, (y, (z, (b, tt)))) (vx ∷ [], (vy ∷ [], (vz ∷ [], (vb ∷ [], tt)))))
         (WpFn 𝓤 H (𝓣 .C) (𝓣 .Λ) code.function (vx ∷ vy ∷ vz ∷ vb ∷ []) Post)
@@ -167,7 +168,7 @@ module _ {M : Type 1} (𝓤 : URA M) (H : Heap 𝓤) (A : Atoms 𝓤) (W : Given
         move ! (5 ∷ []) $ split ! $ keep ! (6 ∷ 4 ∷ 2 ∷ 3 ∷ 0 ∷ 8 ∷ 7 ∷ []) $ by ! (exits r u (ws .1 .1 .1 .0) (ws .1 .1 .1 .1 .0) (e (now x) refl copied-right) l l′))))))))))))))))))))
 
 module _ {M : Type 1} (𝓤 : URA M) (H : Heap 𝓤) (A : Atoms 𝓤) (W : Given 𝓤 H A) (mem : Memory → SProp 𝓤) (run : Routine → Fun 𝓤) (𝓣 : Tables 𝓤 H)
-    (known-in : Triple 𝓤 (𝓣 .C #records·copy-in) (CopyIn 𝓤 H A mem run)) (known-copied : Triple 𝓤 (𝓣 .C #records·list-copied) (Copied 𝓤 H A mem run)) where
+    (known-in : Triple 𝓤 (𝓣 .C #table·copy-in) (CopyIn 𝓤 H A mem run)) (known-copied : Triple 𝓤 (𝓣 .C #records·list-copied) (Copied 𝓤 H A mem run)) where
   list-rows-walks : Walks 𝓤 H A entry.ended stayed (WpFn 𝓤 H (𝓣 .C) (𝓣 .Λ) code.function) (entry.clauses 𝓤 H A mem run)
   list-rows-walks = walked 𝓤 H A entry.ended stayed (entry.clauses 𝓤 H A mem run) (WpFn 𝓤 H (𝓣 .C) (𝓣 .Λ) code.function)
       (λ κs. (slice-vals, (slice-vals, (slice-vals, (slice-vals, tt)))))
@@ -187,5 +188,5 @@ list-rows-spec 𝓤 H 𝓜 𝓖 𝓡 =
     entered 𝓤 H (tripleOf 𝓤 H (𝓖 .A) entry.signature (entry.spec 𝓤 H (𝓖 .A) (𝓜 .mem) (𝓡 .run)))
     (tables 𝓤 H 𝓜 𝓡 code.env .C) (tables 𝓤 H 𝓜 𝓡 code.env .Λ) #records·list-rows code.function (code.unfolded 𝓤 H 𝓜 𝓡)
     (list-rows-meets 𝓤 H (𝓖 .A) (givenOf 𝓤 H 𝓜 𝓖) (𝓜 .mem) (𝓡 .run) (tablesOf 𝓤 H 𝓜 (tables 𝓤 H 𝓜 𝓡 code.env))
-    (cited 𝓤 H (CopyIn 𝓤 H (𝓖 .A) (𝓜 .mem) (𝓡 .run)) 𝓜 𝓡 code.env #records·copy-in copy-in-def.routine code.calls-records·copy-in (copy-in-thm.met 𝓤 H 𝓜 𝓖 𝓡))
+    (cited 𝓤 H (CopyIn 𝓤 H (𝓖 .A) (𝓜 .mem) (𝓡 .run)) 𝓜 𝓡 code.env #table·copy-in copy-in-def.routine code.calls-table·copy-in (copy-in-thm.met 𝓤 H 𝓜 𝓖 𝓡))
     (cited 𝓤 H (Copied 𝓤 H (𝓖 .A) (𝓜 .mem) (𝓡 .run)) 𝓜 𝓡 code.env #records·list-copied copied-def.routine code.calls-records·list-copied (copied-thm.met 𝓤 H 𝓜 𝓖 𝓡)))

@@ -1,7 +1,7 @@
 -- `read_rows` meets its contract: a walk of its code, by hand. The sheet is taken, and what was taken is stored over the lent records; all that the proof knows of a call is its contract.
 -- The lent roots go to the first call and the lent records to the fourth, each at its own lifetime and ghost name, so what those calls say of them is what is said here.
 -- Assumes nothing.
-use mathlib.Core.Path.{_≡_, refl, ap₂, _∙_}
+use mathlib.Core.Path.{_≡_, refl, ap, _∙_}
 use Prim.Native.Nat.{ℕ}
 use mathlib.Core.List.{List, [], _∷_}
 use lib.ListN.{length}
@@ -39,42 +39,44 @@ use denote.Triple.Table.{entered, cited}
 use denote.Triple.Walked.{says, Stays, stay-none-slice, gave-slice, walkOf, goes-none-slice, goes-gave-slice, Walks, ends-at, walked, walk-meets}
 use denote.Exit.{yes}
 use Rattle.recipe.specs.declared.Row.{Row}
-use Rattle.sheet.specs.Reading.{rootsOf, laid}
-use Rattle.sheet.specs.declared.Read.{Read}
-use Rattle.sheet.proofs.Read as S
-use Rattle.sheet.proofs.Read.Laws as S′
-use Rattle.memory.proofs.LocalArray as local-array
-use Rattle.memory.proofs.RowMemory.{R, Rows, vals, tells, lawful}
-use Rattle.sheet_records.specs.Records.{readRecords, Reads}
-use Rattle.sheet_records.specs.Stored.{Takes, overlaid}
-use Rattle.sheet_records.specs.declared.Taken.{Taken}
-use Rattle.sheet_records.proofs.Taking.{stored-is-read}
-use Rattle.sheet_records.proofs.Taken as T
-use Rattle.sheet_records.proofs.Taken.Laws as T′
-use Rattle.sheet_records.proofs.take_sheet as take
-use Rattle.sheet_records.proofs.take_sheet.Symbol as take-def
-use Rattle.sheet_records.proofs.take_sheet.Symbol.{name as #sheet-records·take-sheet}
-use Rattle.sheet_records.proofs.take_sheet.Met as take-thm
-use Rattle.sheet_records.proofs.count_of as count
-use Rattle.sheet_records.proofs.count_of.Symbol as count-def
-use Rattle.sheet_records.proofs.count_of.Symbol.{name as #sheet-records·count-of}
-use Rattle.sheet_records.proofs.count_of.Met as count-thm
-use Rattle.sheet_records.proofs.rows_of as rows
-use Rattle.sheet_records.proofs.rows_of.Symbol as rows-def
-use Rattle.sheet_records.proofs.rows_of.Symbol.{name as #sheet-records·rows-of}
-use Rattle.sheet_records.proofs.rows_of.Met as rows-thm
-use Rattle.sheet_records.proofs.reply_of as reply
-use Rattle.sheet_records.proofs.reply_of.Symbol as reply-def
-use Rattle.sheet_records.proofs.reply_of.Symbol.{name as #sheet-records·reply-of}
-use Rattle.sheet_records.proofs.reply_of.Met as reply-thm
-use Rattle.sheet_records.proofs.copy_out as copy-out
-use Rattle.sheet_records.proofs.copy_out.Symbol as copy-out-def
-use Rattle.sheet_records.proofs.copy_out.Symbol.{name as #sheet-records·copy-out}
-use Rattle.sheet_records.proofs.copy_out.Met as copy-out-thm
-use Rattle.sheet_records.proofs.read_rows.Key.{name as #sheet-records·read-rows}
-use Rattle.sheet_records.proofs.read_rows as entry
-use Rattle.sheet_records.proofs.read_rows.Statement as stated
-use Rattle.sheet_records.proofs.read_rows.Code as code
+use Rattle.numbers.specs.General.{laid}
+use Rattle.numbers.specs.Sizes.{ours}
+use Rattle.table.specs.Reading.{rootsOf, rowCount}
+use Rattle.table.specs.Storing.{overlaid, heldOf}
+use Rattle.table.specs.declared.Read.{Read}
+use Rattle.table.specs.declared.Held.{Held}
+use Rattle.table.proofs.Read as S
+use Rattle.table.proofs.Read.Laws as S′
+use Rattle.table.proofs.Held as T
+use Rattle.table.proofs.Held.Laws as T′
+use Rattle.table.proofs.LocalArray as local-array
+use Rattle.table.proofs.RowMemory.{R, Rows, vals, tells, lawful}
+use Rattle.records.specs.Records.{readRecords, Reads}
+use Rattle.records.proofs.Taking.{stored-is-read}
+use Rattle.records.proofs.take_sheet as take
+use Rattle.records.proofs.take_sheet.Symbol as take-def
+use Rattle.records.proofs.take_sheet.Symbol.{name as #records·take-sheet}
+use Rattle.records.proofs.take_sheet.Met as take-thm
+use Rattle.records.proofs.count_of as count
+use Rattle.records.proofs.count_of.Symbol as count-def
+use Rattle.records.proofs.count_of.Symbol.{name as #records·count-of}
+use Rattle.records.proofs.count_of.Met as count-thm
+use Rattle.records.proofs.rows_of as rows
+use Rattle.records.proofs.rows_of.Symbol as rows-def
+use Rattle.records.proofs.rows_of.Symbol.{name as #records·rows-of}
+use Rattle.records.proofs.rows_of.Met as rows-thm
+use Rattle.records.proofs.reply_of as reply
+use Rattle.records.proofs.reply_of.Symbol as reply-def
+use Rattle.records.proofs.reply_of.Symbol.{name as #records·reply-of}
+use Rattle.records.proofs.reply_of.Met as reply-thm
+use Rattle.table.proofs.copy_out as copy-out
+use Rattle.table.proofs.copy_out.Symbol as copy-out-def
+use Rattle.table.proofs.copy_out.Symbol.{name as #table·copy-out}
+use Rattle.table.proofs.copy_out.Met as copy-out-thm
+use Rattle.records.proofs.read_rows.Key.{name as #records·read-rows}
+use Rattle.records.proofs.read_rows as entry
+use Rattle.records.proofs.read_rows.Statement as stated
+use Rattle.records.proofs.read_rows.Code as code
 
 abbrev stayed : Stays (entry.ended .signature .params) (entry.ended .kept)
 stayed = (stay-none-slice (0 ∷ []) tt (plain (λ _. u8)) yes, (gave-slice (1 ∷ []) tt (plain (λ _. R)), (gave-slice (2 ∷ []) tt (plain (λ _. u16)), tt)))
@@ -117,7 +119,7 @@ module _ {M : Type 1} (𝓤 : URA M) (H : Heap 𝓤) (A : Atoms 𝓤) (W : Given
   abbrev OwnX : Fml
   OwnX = ShrSlice (named 0) κ u8 .own x (vx ∷ [])
 
-  exits : (r : Read) (u : Val) (records : List Row) (roots : List ℕ) → Reads (now x) (now y) (now z) r records roots → length records ≡ length (now y) → length roots ≡ length (now z)
+  exits : (r : Read) (u : Val) (records : List Row) (roots : List ℕ) → Reads ours (now x) (now y) (now z) r records roots → length records ≡ length (now y) → length roots ≡ length (now z)
       → ent 𝓤 (⋆ 𝓤 H A (‵ (S.the-row .own r (u ∷ [])) ∷ (‵ (flft κ′ q′) ⊛ ‵ ftrue) ∷ ‵ (finally R (name y) records) ∷ (‵ (flft κ q) ⊛ ‵ (flft κ″ q″) ⊛ ‵ ftrue) ∷ ‵ (finally u16 (name z) roots) ∷ ‵ OwnX ∷ [])) (Post u)
   exits r u records roots e lr lz =
       qed W (‵ (S.the-row .own r (u ∷ [])) ∷ (‵ (flft κ′ q′) ⊛ ‵ ftrue) ∷ ‵ (finally R (name y) records) ∷ (‵ (flft κ q) ⊛ ‵ (flft κ″ q″) ⊛ ‵ ftrue) ∷ ‵ (finally u16 (name z) roots) ∷ ‵ OwnX ∷ []) ∵
@@ -140,23 +142,23 @@ module _ {M : Type 1} (𝓤 : URA M) (H : Heap 𝓤) (A : Atoms 𝓤) (W : Given
   goes-in = qed W ((‵ (flft κ q) ⊛ ‵ (flft κ″ q″) ⊛ ‵ ftrue) ∷ ‵ (owns (ShrSlice (named 0) κ u8 ∷ usize ∷ MutSlice (named 1) κ″ u16 ∷ []) args passed) ∷ []) ∵ join ! $ frame ! $ done !
 
   -- what it says of what was taken and of the last roots
-  abbrev Said : Taken → List ℕ → Type 0
-  Said t roots = Takes (readRecords (now x) (now y) (now z)) t × (roots ≡ laid (rootsOf (readRecords (now x) (now y) (now z))) (now z))
+  abbrev Said : Held → List ℕ → Type 0
+  Said t roots = (t ≡ heldOf (readRecords ours (now x) (now y) (now z))) × (roots ≡ laid (rootsOf (readRecords ours (now x) (now y) (now z))) (now z))
 
   -- the calls that hand back a part of what was taken: each is passed the whole, and asks for nothing more
-  abbrev to-part : Taken → Val → Count 𝓤 H A mem run .Ghost
+  abbrev to-part : Held → Val → Count 𝓤 H A mem run .Ghost
   to-part t v = ((tt, tt, tt, (t, tt), (v ∷ [], tt)), tt)
 
-  goes-part : (t : Taken) (v : Val) → Is T.the-row t (v ∷ []) → ent 𝓤 (emp 𝓤) (Count 𝓤 H A mem run .pre (to-part t v))
+  goes-part : (t : Held) (v : Val) → Is T.the-row t (v ∷ []) → ent 𝓤 (emp 𝓤) (Count 𝓤 H A mem run .pre (to-part t v))
   goes-part t v is = qed W [] ∵ nothing ! $ owned ! T.the-row (Is T.the-row) (LL.makes T.the-type T′.the-plain 𝓤 H A) t _ is $ fjoin ! $ nothing ! $ join ! $ frame ! $ done !
 
-  said-count : (t : Taken) (n : ℕ) → ent 𝓤 (ensured 𝓤 H A count.ended (count.clauses 𝓤 H A mem run) tt (t, tt) tt n) (fact 𝓤 (n ≡ t .count))
-  said-count t n = exE 𝓤 _ (λ ws. snd∗ 𝓤 (sem 𝓤 H A (lasts count.ended tt (t, tt) ws)) (fact 𝓤 (n ≡ t .count)))
+  said-count : (t : Held) (n : ℕ) → ent 𝓤 (ensured 𝓤 H A count.ended (count.clauses 𝓤 H A mem run) tt (t, tt) tt n) (fact 𝓤 (n ≡ rowCount (t .reply)))
+  said-count t n = exE 𝓤 _ (λ ws. snd∗ 𝓤 (sem 𝓤 H A (lasts count.ended tt (t, tt) ws)) (fact 𝓤 (n ≡ rowCount (t .reply))))
 
-  said-rows : (t : Taken) (all : List Row) → ent 𝓤 (ensured 𝓤 H A rows.ended (rows.clauses 𝓤 H A mem run) tt (t, tt) tt all) (fact 𝓤 (all ≡ t .all))
-  said-rows t all = exE 𝓤 _ (λ ws. snd∗ 𝓤 (sem 𝓤 H A (lasts rows.ended tt (t, tt) ws)) (fact 𝓤 (all ≡ t .all)))
+  said-rows : (t : Held) (all : List Row) → ent 𝓤 (ensured 𝓤 H A rows.ended (rows.clauses 𝓤 H A mem run) tt (t, tt) tt all) (fact 𝓤 (all ≡ t .rows))
+  said-rows t all = exE 𝓤 _ (λ ws. snd∗ 𝓤 (sem 𝓤 H A (lasts rows.ended tt (t, tt) ws)) (fact 𝓤 (all ≡ t .rows)))
 
-  said-reply : (t : Taken) (r : Read) → ent 𝓤 (ensured 𝓤 H A reply.ended (reply.clauses 𝓤 H A mem run) tt (t, tt) tt r) (fact 𝓤 (r ≡ t .reply))
+  said-reply : (t : Held) (r : Read) → ent 𝓤 (ensured 𝓤 H A reply.ended (reply.clauses 𝓤 H A mem run) tt (t, tt) tt r) (fact 𝓤 (r ≡ t .reply))
   said-reply t r = exE 𝓤 _ (λ ws. snd∗ 𝓤 (sem 𝓤 H A (lasts reply.ended tt (t, tt) ws)) (fact 𝓤 (r ≡ t .reply)))
 
   -- the call that stores the rows
@@ -168,9 +170,9 @@ module _ {M : Type 1} (𝓤 : URA M) (H : Heap 𝓤) (A : Atoms 𝓤) (W : Given
   goes-out n vn all va = qed W ((‵ (flft κ′ q′) ⊛ ‵ ftrue) ∷ ‵ (owns (usize ∷ Rows ∷ MutSlice (named 0) κ′ R ∷ []) (n, (all, (y, tt))) (vn ∷ [], (va ∷ [], (vy ∷ [], tt)))) ∷ []) ∵ join ! $ frame ! $ done !
 
   module _
-      (𝓣 : Tables 𝓤 H) (known-take : Triple 𝓤 (𝓣 .C #sheet-records·take-sheet) (Take 𝓤 H A mem run)) (known-count : Triple 𝓤 (𝓣 .C #sheet-records·count-of) (Count 𝓤 H A mem run))
-      (known-rows : Triple 𝓤 (𝓣 .C #sheet-records·rows-of) (AllRows 𝓤 H A mem run)) (known-out : Triple 𝓤 (𝓣 .C #sheet-records·copy-out) (CopyOut 𝓤 H A mem run))
-      (known-reply : Triple 𝓤 (𝓣 .C #sheet-records·reply-of) (Reply 𝓤 H A mem run)) where
+      (𝓣 : Tables 𝓤 H) (known-take : Triple 𝓤 (𝓣 .C #records·take-sheet) (Take 𝓤 H A mem run)) (known-count : Triple 𝓤 (𝓣 .C #records·count-of) (Count 𝓤 H A mem run))
+      (known-rows : Triple 𝓤 (𝓣 .C #records·rows-of) (AllRows 𝓤 H A mem run)) (known-out : Triple 𝓤 (𝓣 .C #table·copy-out) (CopyOut 𝓤 H A mem run))
+      (known-reply : Triple 𝓤 (𝓣 .C #records·reply-of) (Reply 𝓤 H A mem run)) where
     walk : Room u8 (length (now x)) → Room R (length (now y)) → Room u16 (length (now z))
         → ent 𝓤 (onEntry 𝓤 H A entry.signature (κ, (κ′, (κ″, tt))) (q, (q′, (q″, tt))) (x, (y, (z, tt))) (vx ∷ [], (vy ∷ [], (vz ∷ [], tt)))) (WpFn 𝓤 H (𝓣 .C) (𝓣 .Λ) code.function (vx ∷ vy ∷ vz ∷ []) Post)
     walk roomx roomy roomz =
@@ -190,7 +192,7 @@ module _ {M : Type 1} (𝓤 : URA M) (H : Heap 𝓤) (A : Atoms 𝓤) (W : Given
         -- [what the call asks; bytes; the token of rows; rows; _11; …]
         calls-at ! (fmOf 𝓤 H (W .laws) 𝓣) (Take 𝓤 H A mem run) known-take to-take
         (and-then ! (load ! (from ! (stop !)) (look ! 24 refl)) (and-then ! (load ! (from ! (stop !)) (look ! 16 refl)) (and-then ! (load ! (from ! (stop !)) (look ! 12 refl)) (no-more !)))) (λ v.
-        use1 W (later (some (λ (t : Taken). ((‵ (flft κ q) ⊛ ‵ (flft κ″ q″) ⊛ ‵ ftrue) ⊛ ‵ (T.the-row .own t (v ∷ []))) ⊛ raw (ensured 𝓤 H A take.ended (take.clauses 𝓤 H A mem run) (κ, (κ″, tt)) args tt t)))) (id⊢ 𝓤 _) $ await ! tt $ pick ! (λ t.
+        use1 W (later (some (λ (t : Held). ((‵ (flft κ q) ⊛ ‵ (flft κ″ q″) ⊛ ‵ ftrue) ⊛ ‵ (T.the-row .own t (v ∷ []))) ⊛ raw (ensured 𝓤 H A take.ended (take.clauses 𝓤 H A mem run) (κ, (κ″, tt)) args tt t)))) (id⊢ 𝓤 _) $ await ! tt $ pick ! (λ t.
         split ! $ move ! (1 ∷ []) $ use1 W (some (λ (ws : Lasts take.ended (κ, (κ″, tt)) args). ‵ (lasts take.ended (κ, (κ″, tt)) args ws) ⊛ raw (fact 𝓤 (Said t (ws .1 .1 .0))))) (id⊢ 𝓤 _) $ pick ! (λ ws.
         split ! $ move ! (1 ∷ []) $ heard ! (Said t (ws .1 .1 .0)) (λ taken. fsplit ! $ drop ! $ fsplit ! $ drop ! $ fsplit ! $ fsplit ! $ move ! (1 ∷ []) $ feqL ! (λ lz.
         -- [the last roots; true; the tokens and what was taken; bytes; the token of rows; rows; _11; …]
@@ -200,14 +202,14 @@ module _ {M : Type 1} (𝓤 : URA M) (H : Heap 𝓤) (A : Atoms 𝓤) (W : Given
         use0 W (raw (Count 𝓤 H A mem run .pre (to-part t v))) (goes-part t v is) $
         calls-at ! (fmOf 𝓤 H (W .laws) 𝓣) (Count 𝓤 H A mem run) known-count (to-part t v) (and-then ! (load ! (from ! (stop !)) (look ! 20 refl)) (no-more !)) (λ vn.
         use1 W (later (some (λ (n : ℕ). (‵ ftrue ⊛ ‵ (usize .own n (vn ∷ []))) ⊛ raw (ensured 𝓤 H A count.ended (count.clauses 𝓤 H A mem run) tt (t, tt) tt n)))) (id⊢ 𝓤 _) $ await ! tt $ pick ! (λ n.
-        split ! $ move ! (1 ∷ []) $ use1 W (raw (fact 𝓤 (n ≡ t .count))) (said-count t n) $ heard ! (n ≡ t .count) (λ counted. split ! $ drop ! $
+        split ! $ move ! (1 ∷ []) $ use1 W (raw (fact 𝓤 (n ≡ rowCount (t .reply)))) (said-count t n) $ heard ! (n ≡ rowCount (t .reply)) (λ counted. split ! $ drop ! $
         peeks ! usize (Is usize) (shows 𝓤 H A usize) n (vn ∷ []) (λ n-is.
         land ! (from ! (stop !)) (store ! 18 refl (uint-lawful 𝓤 H A W w64 .typed n _ n-is .0)) $
         -- [the count; the tokens of bytes and of roots; the last roots; bytes; the token of rows; rows; _11; …]
         use0 W (raw (AllRows 𝓤 H A mem run .pre (to-part t v))) (goes-part t v is) $
         calls-at ! (fmOf 𝓤 H (W .laws) 𝓣) (AllRows 𝓤 H A mem run) known-rows (to-part t v) (and-then ! (load ! (from ! (stop !)) (look ! 21 refl)) (no-more !)) (λ va.
         use1 W (later (some (λ (all : List Row). (‵ ftrue ⊛ ‵ (Rows .own all (va ∷ []))) ⊛ raw (ensured 𝓤 H A rows.ended (rows.clauses 𝓤 H A mem run) tt (t, tt) tt all)))) (id⊢ 𝓤 _) $ await ! tt $ pick ! (λ all.
-        split ! $ move ! (1 ∷ []) $ use1 W (raw (fact 𝓤 (all ≡ t .all))) (said-rows t all) $ heard ! (all ≡ t .all) (λ handed. split ! $ drop ! $
+        split ! $ move ! (1 ∷ []) $ use1 W (raw (fact 𝓤 (all ≡ t .rows))) (said-rows t all) $ heard ! (all ≡ t .rows) (λ handed. split ! $ drop ! $
         peeks ! Rows (Is Rows) (shows 𝓤 H A Rows) all (va ∷ []) (λ all-is.
         land ! (from ! (stop !)) (init ! 11 refl (local-array.array-has-type R vals tells 1024 𝓤 H A W (lawful 𝓤 H A W) all va all-is)) $
         -- [the rows taken; the count; the tokens of bytes and of roots; the last roots; bytes; the token of rows; rows; _11; …]
@@ -236,12 +238,12 @@ module _ {M : Type 1} (𝓤 : URA M) (H : Heap 𝓤) (A : Atoms 𝓤) (W : Given
         move ! (28 ∷ 29 ∷ 26 ∷ 27 ∷ 24 ∷ 25 ∷ 22 ∷ 23 ∷ 20 ∷ 21 ∷ 18 ∷ 19 ∷ 16 ∷ 17 ∷ 14 ∷ 15 ∷ 12 ∷ 13 ∷ 10 ∷ 11 ∷ 8 ∷ 9 ∷ 6 ∷ 7 ∷ []) $
         free1 ! $ free1 ! $ free1 ! $ free1 ! $ free1 ! $ free1 ! $ free1 ! $ free1 ! $ free1 ! $ free1 ! $ free1 ! $ free1 ! $ free0 ! $
         by ! (exits r u (us .1 .1 .0) (ws .1 .1 .0)
-        (stored-is-read (now x) (now z) (ws .1 .1 .0) (now y) (us .1 .1 .0) t r (taken .0) replied (stored ∙ ap₂ (λ (k : ℕ) (l : List Row). overlaid k l (now y)) counted handed) (taken .1)) ly lz)))))))))))))))))))))))))))))))))))))
+        (stored-is-read (now x) (now z) (now y) (taken .0) replied counted (stored ∙ ap (λ (l : List Row). overlaid n l (now y)) handed) (taken .1)) ly lz)))))))))))))))))))))))))))))))))))))
 
 module _ {M : Type 1} (𝓤 : URA M) (H : Heap 𝓤) (A : Atoms 𝓤) (W : Given 𝓤 H A) (mem : Memory → SProp 𝓤) (run : Routine → Fun 𝓤) (𝓣 : Tables 𝓤 H)
-    (known-take : Triple 𝓤 (𝓣 .C #sheet-records·take-sheet) (Take 𝓤 H A mem run)) (known-count : Triple 𝓤 (𝓣 .C #sheet-records·count-of) (Count 𝓤 H A mem run))
-    (known-rows : Triple 𝓤 (𝓣 .C #sheet-records·rows-of) (AllRows 𝓤 H A mem run)) (known-out : Triple 𝓤 (𝓣 .C #sheet-records·copy-out) (CopyOut 𝓤 H A mem run))
-    (known-reply : Triple 𝓤 (𝓣 .C #sheet-records·reply-of) (Reply 𝓤 H A mem run)) where
+    (known-take : Triple 𝓤 (𝓣 .C #records·take-sheet) (Take 𝓤 H A mem run)) (known-count : Triple 𝓤 (𝓣 .C #records·count-of) (Count 𝓤 H A mem run))
+    (known-rows : Triple 𝓤 (𝓣 .C #records·rows-of) (AllRows 𝓤 H A mem run)) (known-out : Triple 𝓤 (𝓣 .C #table·copy-out) (CopyOut 𝓤 H A mem run))
+    (known-reply : Triple 𝓤 (𝓣 .C #records·reply-of) (Reply 𝓤 H A mem run)) where
   read-rows-walks : Walks 𝓤 H A entry.ended stayed (WpFn 𝓤 H (𝓣 .C) (𝓣 .Λ) code.function) (entry.clauses 𝓤 H A mem run)
   read-rows-walks = walked 𝓤 H A entry.ended stayed (entry.clauses 𝓤 H A mem run) (WpFn 𝓤 H (𝓣 .C) (𝓣 .Λ) code.function)
       (λ κs. (slice-vals, (slice-vals, (slice-vals, tt)))) (λ κs. (shr-slice-tells (named 0) (κs .0) u8, (mut-slice-tells (named 1) (κs .1 .0) R, (mut-slice-tells (named 2) (κs .1 .1 .0) u16, tt))))
@@ -257,10 +259,10 @@ pub read-rows-spec : {M : Type 1} → stated.statement M
 unfolding code.routine tablesOf
 read-rows-spec 𝓤 H 𝓜 𝓖 𝓡 =
     entered 𝓤 H (tripleOf 𝓤 H (𝓖 .A) entry.signature (entry.spec 𝓤 H (𝓖 .A) (𝓜 .mem) (𝓡 .run)))
-    (tables 𝓤 H 𝓜 𝓡 code.env .C) (tables 𝓤 H 𝓜 𝓡 code.env .Λ) #sheet-records·read-rows code.function (code.unfolded 𝓤 H 𝓜 𝓡)
+    (tables 𝓤 H 𝓜 𝓡 code.env .C) (tables 𝓤 H 𝓜 𝓡 code.env .Λ) #records·read-rows code.function (code.unfolded 𝓤 H 𝓜 𝓡)
     (read-rows-meets 𝓤 H (𝓖 .A) (givenOf 𝓤 H 𝓜 𝓖) (𝓜 .mem) (𝓡 .run) (tablesOf 𝓤 H 𝓜 (tables 𝓤 H 𝓜 𝓡 code.env))
-    (cited 𝓤 H (Take 𝓤 H (𝓖 .A) (𝓜 .mem) (𝓡 .run)) 𝓜 𝓡 code.env #sheet-records·take-sheet take-def.routine code.calls-sheet-records·take-sheet (take-thm.met 𝓤 H 𝓜 𝓖 𝓡))
-    (cited 𝓤 H (Count 𝓤 H (𝓖 .A) (𝓜 .mem) (𝓡 .run)) 𝓜 𝓡 code.env #sheet-records·count-of count-def.routine code.calls-sheet-records·count-of (count-thm.met 𝓤 H 𝓜 𝓖 𝓡))
-    (cited 𝓤 H (AllRows 𝓤 H (𝓖 .A) (𝓜 .mem) (𝓡 .run)) 𝓜 𝓡 code.env #sheet-records·rows-of rows-def.routine code.calls-sheet-records·rows-of (rows-thm.met 𝓤 H 𝓜 𝓖 𝓡))
-    (cited 𝓤 H (CopyOut 𝓤 H (𝓖 .A) (𝓜 .mem) (𝓡 .run)) 𝓜 𝓡 code.env #sheet-records·copy-out copy-out-def.routine code.calls-sheet-records·copy-out (copy-out-thm.met 𝓤 H 𝓜 𝓖 𝓡))
-    (cited 𝓤 H (Reply 𝓤 H (𝓖 .A) (𝓜 .mem) (𝓡 .run)) 𝓜 𝓡 code.env #sheet-records·reply-of reply-def.routine code.calls-sheet-records·reply-of (reply-thm.met 𝓤 H 𝓜 𝓖 𝓡)))
+    (cited 𝓤 H (Take 𝓤 H (𝓖 .A) (𝓜 .mem) (𝓡 .run)) 𝓜 𝓡 code.env #records·take-sheet take-def.routine code.calls-records·take-sheet (take-thm.met 𝓤 H 𝓜 𝓖 𝓡))
+    (cited 𝓤 H (Count 𝓤 H (𝓖 .A) (𝓜 .mem) (𝓡 .run)) 𝓜 𝓡 code.env #records·count-of count-def.routine code.calls-records·count-of (count-thm.met 𝓤 H 𝓜 𝓖 𝓡))
+    (cited 𝓤 H (AllRows 𝓤 H (𝓖 .A) (𝓜 .mem) (𝓡 .run)) 𝓜 𝓡 code.env #records·rows-of rows-def.routine code.calls-records·rows-of (rows-thm.met 𝓤 H 𝓜 𝓖 𝓡))
+    (cited 𝓤 H (CopyOut 𝓤 H (𝓖 .A) (𝓜 .mem) (𝓡 .run)) 𝓜 𝓡 code.env #table·copy-out copy-out-def.routine code.calls-table·copy-out (copy-out-thm.met 𝓤 H 𝓜 𝓖 𝓡))
+    (cited 𝓤 H (Reply 𝓤 H (𝓖 .A) (𝓜 .mem) (𝓡 .run)) 𝓜 𝓡 code.env #records·reply-of reply-def.routine code.calls-records·reply-of (reply-thm.met 𝓤 H 𝓜 𝓖 𝓡)))
