@@ -2,13 +2,13 @@
 -- Assumes nothing.
 use mathlib.Core.Path.{_≡_, refl}
 use mathlib.Core.Bool.{false, true}
-use mathlib.Core.List.{List, [], _∷_}
+use mathlib.Core.List.{List, _∷_}
 use Prim.Native.Nat.{ℕ, _^_}
 use lib.ListN.{replicate, set}
 use Rattle.numbers.specs.General.{inTurn, sumBelow}
-use Rattle.numbers.specs.Sizes.{ours}
+use Rattle.numbers.specs.Sizes.{ours, matrixWords}
 use Rattle.labels.specs.Words.{bit}
-use Rattle.labels.specs.Sets.{member}
+use Rattle.labels.specs.Sets.{member, none}
 use Rattle.matrix.specs.Matrix.{marked, pairsAtOrAbove}
 use Rattle.text.specs.Bytes.{ascii}
 use Rattle.text.specs.Numbers.{spelled, spelledIn}
@@ -28,10 +28,10 @@ unfolding listing opening lines pairLine spelled spelledIn inTurn pairAt member 
 itself-listing = refl
 
 -- 9 meets 63
-two-digits-lines : lines (pairs (ours .words) (set (set (replicate 64 0) 9 (2 ^ 63)) 63 (2 ^ 9))) ≡ ascii "9\t63\n"
+two-digits-lines : lines (pairs (ours .words) (set (set (none (matrixWords (ours .words))) 9 (2 ^ 63)) 63 (2 ^ 9))) ≡ ascii "9\t63\n"
 unfolding lines pairLine spelled spelledIn inTurn pairAt member bit
 two-digits-lines = refl
 
-no-pair-listing : listing (ours .words) (replicate 64 0) 12 true ≡ ascii "pairs\t0\trounds\t12\twide\n"
+no-pair-listing : listing (ours .words) (none (matrixWords (ours .words))) 12 true ≡ ascii "pairs\t0\trounds\t12\twide\n"
 unfolding listing opening lines pairLine spelled spelledIn inTurn pairAt member bit sumBelow pairsAtOrAbove marked
 no-pair-listing = refl

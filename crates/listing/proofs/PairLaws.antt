@@ -119,7 +119,7 @@ module _ {n : ℕ} {f : ℕ → List Pair} where
 
 partners-one : (m : List ℕ) (i : ℕ) → i < length m → partners (ours .words) m i ≡ getD m i 0 ∷ []
 partners-one m i h =
-    ap (λ (k : ℕ). take 1 (drop k m)) (mul-one i) ∙ ap (take 1) (drop-cons m i 0 h)
+    ap (λ (k : ℕ). take (ours .words) (drop k m)) (mul-one i) ∙ ap (take (ours .words)) (drop-cons m i 0 h)
 
 -- The lines of label i's pairs, by the words of the matrix.
 abbrev pub rowOf : List ℕ → ℕ → List Pair

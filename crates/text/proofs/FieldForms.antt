@@ -12,7 +12,7 @@ use Rattle.text.specs.Bytes.{digit, isDigit}
 use Rattle.text.specs.Numbers.{spelled}
 use Rattle.text.proofs.DigitLaws.{digit-bounds, digit-is}
 use Rattle.text.proofs.SpelledLaws.{spelled-alone, spelled-last, spelled-onto}
-use Rattle.text.specs.Fields.{Field, holds, broken, textAt, digitsAt, digitsAfter, numberAt}
+use Rattle.text.specs.Fields.{holds, broken, textAt, digitsAt, digitsAfter, numberAt}
 use Rattle.text.proofs.FieldLoops.{tens, digit-bounded, first-digit-short}
 use Rattle.text.proofs.FieldLaws.{text-same, text-other, digits-stop, digits-over, digits-other, digits-next, digits-none}
 use Rattle.text.proofs.FieldLaws.{number-first, number-other, none-after-zero, three-after-another}

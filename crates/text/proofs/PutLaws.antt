@@ -1,8 +1,8 @@
 -- Texts put one behind the other are their join, put at once, with room for them or without: a store changes one byte, and
 -- behind the last byte it changes none. Assumes nothing.
-use mathlib.Core.Path.{_≡_, refl, sym, ap, ap₂, _∙_}
+use mathlib.Core.Path.{_≡_, refl, sym, ap, _∙_}
 use mathlib.Core.List.{List, [], _∷_, _++_}
-use Prim.Native.Nat.{ℕ, suc, _+_, _-_, _≤_, _<_, min}
+use Prim.Native.Nat.{ℕ, suc, _+_, _-_, _≤_, _<_}
 use native.Mathlib.Nat.{add-zero, add-suc, suc-add, zero-add}
 use native.Mathlib.Decide.{decLe}
 use native.Mathlib.Numerals.{add-one}
@@ -40,9 +40,6 @@ put-behind {a} {s} {b} {t} {c} {at} {next} {end} p q =
     by-room (yes h) = let same : next ≡ at + length s = omega (arith, p .place) in ap (λ (k : ℕ). sets b k t) same
     by-room (no h) =
         sets-beyond b next t (omega (arith, p .place, put-keeps p)) ∙ sym (sets-beyond b (at + length s) t (omega (arith, put-keeps p)))
-
-pub put-one : {a : List ℕ} {at : ℕ} (b : ℕ) → at < length a → Put a at (b ∷ []) (set a at b) (at + 1)
-put-one b h = record { bytes = refl; place = omega arith }
 
 pub put-none : {a : List ℕ} {at : ℕ} (b : ℕ) → length a ≤ at → Put a at (b ∷ []) a at
 put-none {a} {at} b h = record { bytes = sym (set-out a at b h); place = omega arith }

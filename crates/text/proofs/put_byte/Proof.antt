@@ -1,6 +1,6 @@
 -- `put_byte` meets its contract: a byte is stored where there is a place for it, and nowhere else.
 -- Assumes nothing.
-use Rattle.text.proofs.PutLaws.{put-one, put-none}
+use Rattle.text.proofs.PutLaws.{put-none}
 use borrow.Author.Needs.{needs}
 use Rattle.text.proofs.put_byte.Statement.{statement}
 use Rattle.text.proofs.put_byte.Tie as tie
