@@ -26,15 +26,15 @@ use Rattle.analysis.proofs.Shape.{Sized, Shaped, by-parts, shaped, shap
 use Rattle.analysis.proofs.Growth.{grown}
 
 -- A relation between numbers that max and min keep, as `_≤_` and `_≡_` are.
-pub record Kept (R : ℕ → ℕ → Type 0) : Type 0 where
+pub record KeptByMaxMin (R : ℕ → ℕ → Type 0) : Type 0 where
   pub same : (a : ℕ) → R a a
   pub either : {a b c d : ℕ} → R a c → R b d → R (max a b) (max c d)
   pub both : {a b c d : ℕ} → R a c → R b d → R (min a b) (min c d)
 
-pub order-kept : Kept _≤_
+pub order-kept : KeptByMaxMin _≤_
 order-kept = record { same = le-refl; either = λ p q. omega arith; both = λ p q. omega arith }
 
-pub equality-kept : Kept _≡_
+pub equality-kept : KeptByMaxMin _≡_
 equality-kept = record { same = λ a. refl; either = ap₂ max; both = ap₂ min }
 
 whole : {n : ℕ} {m : List ℕ} → Sized n m → n ≤ length m
@@ -46,7 +46,7 @@ sized-beyond {n} {s} x k past = List·getD-eq-default s 0 {n = k} (subst (λ (m 
 -- What is so related for the procedures is so related for every statement.
 module _
     (R : ℕ → ℕ → Type 0)
-    (kept : Kept R)
+    (kept : KeptByMaxMin R)
     (w : ℕ)
     (B C : ℕ → WordSummary)
     (b : (f : ℕ) → Shaped w (B f))
@@ -122,17 +122,17 @@ module _
         meets-kept i j hi hj meets (loop s) =
             across i j hi hj s s _ _ (shaped w B b s .M) (shaped w C c s .M) (meets-kept i j hi hj meets s)
         meets-kept i j hi hj meets (async s) = meets-kept i j hi hj meets s
-        meets-kept i j hi hj meets (finish s) = meets-kept i j hi hj meets s
+        meets-kept i j hi hj meets (finish s) = search (meets-kept i j hi hj meets s, kept .same)
         meets-kept i j hi hj meets (call f) = meets f
 
 -- y has every label and every pair that x has.
-pub record Within (w : ℕ) (x y : WordSummary) : Type 0 where
+pub record WordsInside (w : ℕ) (x y : WordSummary) : Type 0 where
   pub M : (i j : ℕ) → i < labelCeiling w → j < labelCeiling w → marked w (x .M) i j ≤ marked w (y .M) i j
   pub O : (l : ℕ) → l < labelCeiling w → member (x .O) l ≤ member (y .O) l
   pub L : (l : ℕ) → l < labelCeiling w → member (x .L) l ≤ member (y .L) l
 
-pub empty-within : (w : ℕ) (x : WordSummary) → Within w (emptyWords w) x
-empty-within w x =
+pub empty-inside : (w : ℕ) (x : WordSummary) → WordsInside w (emptyWords w) x
+empty-inside w x =
     record {
       M = λ i j hi hj. omega (arith, marked-none w i j);
       O = λ l h. omega (arith, member-none w l);
@@ -141,8 +141,8 @@ empty-within w x =
 
 -- more for the procedures gives more for every statement
 pub monotone :
-    (w : ℕ) (B C : ℕ → WordSummary) → ((f : ℕ) → Shaped w (B f)) → ((f : ℕ) → Shaped w (C f)) → ((f : ℕ) → Within w (B f) (C f))
-    → (s : Stmt) → Within w (wordsOf w B s) (wordsOf w C s)
+    (w : ℕ) (B C : ℕ → WordSummary) → ((f : ℕ) → Shaped w (B f)) → ((f : ℕ) → Shaped w (C f)) → ((f : ℕ) → WordsInside w (B f) (C f))
+    → (s : Stmt) → WordsInside w (wordsOf w B s) (wordsOf w C s)
 monotone w B C b c more s =
     let runs : (l : ℕ) → l < labelCeiling w → (f : ℕ) → member (B f .L) l ≤ member (C f .L) l = λ l h f. more f .L l h in
     let stays : (l : ℕ) → l < labelCeiling w → (f : ℕ) → member (B f .O) l ≤ member (C f .O) l = λ l h f. more f .O l h in
@@ -199,9 +199,9 @@ equal-same-words w x y e =
 
 module _ (w : ℕ) (p : Program) where
   -- a round has all that the round before it has
-  pub grows : (k f : ℕ) → Within w (after w p k f) (after w p (suc k) f)
+  pub grows : (k f : ℕ) → WordsInside w (after w p k f) (after w p (suc k) f)
   unfolding after
-  grows zero f = empty-within w (after w p (suc zero) f)
+  grows zero f = empty-inside w (after w p (suc zero) f)
   grows (suc k) f =
       monotone w (after w p k) (after w p (suc k)) (shaped-after w p k) (shaped-after w p (suc k)) (grows k) (body p f)
 

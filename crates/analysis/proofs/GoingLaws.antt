@@ -18,7 +18,7 @@ use Rattle.calculus.specs.Syntax.{Stmt, skip, step, seq, loop, async, finish, c
 use Rattle.calculus.specs.Calls.{CallsIn}
 use Rattle.recipe.specs.Rules.{admitted}
 use Rattle.recipe.specs.Tables.{Table, tableOf}
-use Rattle.recipe.specs.Statements.{programOf}
+use Rattle.recipe.specs.Statements.{statementAt, programOf}
 use Rattle.recipe.proofs.Admitted.{sizes-right, root-row}
 use Rattle.recipe.proofs.AloneLaws.{same-statement, calls-in-range}
 use Rattle.recipe.proofs.Readings.{program-length, body-of-root}
@@ -97,8 +97,10 @@ module _ {z : Size} {kinds xs ys roots held new : List ℕ} {k : ℕ} (g : Going
   body-after f h =
       ap (wordsOf w (heldFor w held)) (same-statement kinds xs ys [] roots (getD roots f 0) ∙ sym (body-of-root t f h))
       ∙ words-alike w (heldFor w held) (after w p k) (body p f)
-      (λ c l. held-after c
-      (omega (arith, few-procs, calls-in-range z t (g .ok) (getD roots f 0) (root-row z t (g .ok) f h) c (subst (λ (s : Stmt). CallsIn s c) (body-of-root t f h) l))))
+      (λ c l. held-after c (callee-there c (subst (λ (s : Stmt). CallsIn s c) (body-of-root t f h) l)))
+    where
+      callee-there : (c : ℕ) → CallsIn (statementAt t (getD roots f 0)) c → c < z .procs
+      callee-there c l = omega (arith, few-procs, calls-in-range z t (g .ok) (getD roots f 0) (root-row z t (g .ok) f h) c l)
 
   module _ {new' : List ℕ} (e : new' ≡ laid (blocks (length roots) (bodyWords w kinds xs ys roots held)) new) where
     next-state : new' ≡ stateAfter z p (suc k)

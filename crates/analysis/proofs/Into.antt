@@ -1,5 +1,5 @@
--- Marking a statement's pairs besides what a matrix holds, part after part, is marking them all at once: a pair is marked after either exactly if it was before or is one of the parts'.
--- Assumes nothing.
+-- Marking a statement's pairs besides what a matrix holds, part after part, is marking them all at once: a pair is marked after either exactly
+-- if it was before or is one of the parts'. Assumes nothing.
 use mathlib.Core.Path.{_≡_, sym, ap, _∙_, subst}
 use mathlib.Core.List.{List}
 use Prim.Native.Nat.{ℕ, _≤_, _<_, min, max}
@@ -13,7 +13,8 @@ use Rattle.labels.specs.Sets.{member, none, joined}
 use Rattle.labels.proofs.SetLaws.{length-joined}
 use Rattle.labels.proofs.ChangedLaws.{changed-below, changed-beyond}
 use Rattle.matrix.specs.Matrix.{marked, merged, crossed, cleared}
-use Rattle.matrix.proofs.MatrixLaws.{marks-make-the-matrix, marked-none, marked-cleared, marked-beyond-label, marked-beyond-partner, length-cleared, words-cleared}
+use Rattle.matrix.proofs.MatrixLaws.{marks-make-the-matrix, marked-none, marked-cleared, marked-beyond-label, marked-beyond-partner}
+use Rattle.matrix.proofs.MatrixLaws.{length-cleared, words-cleared}
 use Rattle.analysis.proofs.Shape.{Sized, sized-none, sized-joined, sized-crossed}
 use Rattle.analysis.proofs.Meanings.{by-range, merged-marks, crossed-marks}
 

@@ -1,3 +1,4 @@
+pub mod AtWork
 pub mod Shape
 pub mod Meanings
 pub mod Growth

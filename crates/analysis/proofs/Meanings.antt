@@ -1,5 +1,5 @@
--- The words mean the sets: each rule on words and the published rule give the same members, since a union is a maximum and a crossing a maximum of minima of bits.
--- Assumes nothing.
+-- The words mean the sets: each rule on words and the published rule give the same members, since a union is a maximum and a crossing a maximum
+-- of minima of bits. Assumes nothing.
 use mathlib.Core.Path.{_≡_, refl, sym, ap, ap₂, _∙_}
 use mathlib.Core.Logic.{_⊎_, inl, inr, ⊎-map}
 use mathlib.Core.List.{List}
@@ -77,7 +77,8 @@ module _ (w : ℕ) where
       by-range j (labelCeiling w)
       (λ l. by-range i (labelCeiling w) (λ h. marked-merged w m (le-of-eq (sym (x .size))) n i j h l)
       (λ h. label-outside (sized-joined x y) i j h ∙ sym (ap₂ max (label-outside x i j h) (label-outside y i j h))))
-      (λ l. let beyond : (s : List ℕ) → marked w s i j ≡ 0 = λ s. marked-beyond-partner w s i j l in beyond (merged w m n) ∙ sym (ap₂ max (beyond m) (beyond n)))
+      (λ l. let beyond : (s : List ℕ) → marked w s i j ≡ 0 = λ s. marked-beyond-partner w s i j l in
+      beyond (merged w m n) ∙ sym (ap₂ max (beyond m) (beyond n)))
 
   pub crossed-marks :
       {a b m : List ℕ} → Sized w a → Sized w b → Sized (matrixWords w) m → (i j : ℕ)

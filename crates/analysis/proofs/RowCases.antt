@@ -12,7 +12,8 @@ use Rattle.matrix.specs.Matrix.{merged, crossed, cleared}
 use Rattle.calculus.specs.Syntax.{Stmt, skip, step, seq, loop, async, finish, call}
 use Rattle.recipe.specs.Inner.{rowsAlone, OfAdmitted}
 use Rattle.recipe.specs.Statements.{statementAt}
-use Rattle.recipe.proofs.AloneLaws.{calls-below, first-smaller, second-smaller, loop-smaller, alone-skip, alone-step, alone-seq, alone-loop, alone-async, alone-finish, alone-call}
+use Rattle.recipe.proofs.AloneLaws.{calls-below, first-smaller, second-smaller, loop-smaller}
+use Rattle.recipe.proofs.AloneLaws.{alone-skip, alone-step, alone-seq, alone-loop, alone-async, alone-finish, alone-call}
 use Rattle.analysis.specs.Summaries.{WordSummary, followedWords, loopedWords, spawnedWords, waitedWords, wordsOf}
 use Rattle.analysis.specs.Inner.{Ready, markedInto, stateWords, heldFor, rowWords}
 use Rattle.analysis.proofs.Shape.{Sized, Shaped, by-parts, sized-joined, shaped-called}

@@ -50,7 +50,8 @@ module _ (w : ℕ) where
   block-alike s t =
       alike-split (matrixWords w + w) w s t
       ∙ ap₂ _&&_
-      (alike-split (matrixWords w) w s t ∙ ap₂ _&&_ (sym (alike-taken (matrixWords w) s t)) (sym (alike-taken w (drop (matrixWords w) s) (drop (matrixWords w) t))))
+      (alike-split (matrixWords w) w s t
+      ∙ ap₂ _&&_ (sym (alike-taken (matrixWords w) s t)) (sym (alike-taken w (drop (matrixWords w) s) (drop (matrixWords w) t))))
       (sym (alike-taken w (drop (matrixWords w + w) s) (drop (matrixWords w + w) t)))
 
   pub states-alike : (n : ℕ) (s t : List ℕ) → alike (n * blockWords w) s t ≡ every n (λ f. sameWords w (heldFor w s f) (heldFor w t f))

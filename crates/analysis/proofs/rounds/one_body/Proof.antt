@@ -105,8 +105,8 @@ returns : tie.Need-returns
 returns c =
     let s = start c in
     let b = worked c .body-summary in
-    ap (λ (n : ℕ). set (set (putMid (at s) n (now (s .args .new)) (b .last .0)) (at s + matrixWords w) (b .result .o)) (at s + matrixWords w + w) (b .result .l))
-    (span-is s)
+    let end = at s + matrixWords w in
+    ap (λ (n : ℕ). set (set (putMid (at s) n (now (s .args .new)) (b .last .0)) end (b .result .o)) (end + w) (b .result .l)) (span-is s)
     ∙ words-stored (now (s .args .new)) (b .last .0) (at s) (matrixWords w) (b .result .o) (b .result .l) (b .kept .0 ∙ part-size s)
     (omega (arith, fits s))
     ∙ ap (storedAt w (now (s .args .new)) (s .args .f .0)) (b .ensures)

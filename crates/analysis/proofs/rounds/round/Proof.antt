@@ -14,12 +14,17 @@ Inv-loop new₀ kinds xs ys roots held f₀ new f = Rounding ours new₀ new kin
 abbrev μ-loop : tie.MeasureT-loop
 μ-loop new₀ kinds xs ys roots held f₀ new f = length roots - f
 
--- From a turn's end back to its begin.
+-- From the loop's begin back to the entry, and from a turn's end back to its begin.
+abbrev entry : tie.After-shared-slice-known5 Inv-loop μ-loop → tie.Start Inv-loop μ-loop
+entry c = c .before .before .before .before .before .before
+
 abbrev turned : tie.After-slice-known2 Inv-loop μ-loop → tie.After-one-body-arg Inv-loop μ-loop
 turned c = c .before .before .before
 
 loop-holds : tie.Need-loop-holds Inv-loop μ-loop
-loop-holds c = round-begins (c .before .before .before .before .before .before .pre) (record { size = c .before .before .before .before .before .before .pre .state; words = λ k. c .shared-slice-known5 .given k .fits })
+loop-holds c =
+    let u = entry c .pre in
+    round-begins u (record { size = u .state; words = λ k. c .shared-slice-known5 .given k .fits })
 
 cast-t13 : tie.Need-cast-t13 Inv-loop μ-loop
 cast-t13 c = omega (arith, few-procs (c .before .before .loop .inv .turn), c .before .loop-test .taken)

@@ -10,7 +10,8 @@ use borrow.Fn.PlainCycle.{Measures, is, falls, and}
 use denote.Ref.{now}
 use lib.ListN.{getD}
 use Rattle.numbers.specs.Sizes.{ours}
-use Rattle.recipe.proofs.AloneLaws.{first-smaller, second-smaller, loop-smaller, async-smaller, finish-smaller, no-other, call-there, label-fits, xs-there, ys-there}
+use Rattle.recipe.proofs.AloneLaws.{first-smaller, second-smaller, loop-smaller, async-smaller, finish-smaller}
+use Rattle.recipe.proofs.AloneLaws.{no-other, call-there, label-fits, xs-there, ys-there}
 use Rattle.analysis.specs.Inner.{summaryWords}
 use Rattle.analysis.proofs.Shape.{by-parts}
 use Rattle.analysis.proofs.RowCases.{Standing, ready-for, skip-row, step-row, seq-row, loop-row, async-row, finish-row, call-row}

@@ -1,8 +1,6 @@
 -- `sequence` meets its contract: the crossing marks, the join hands back the labels, and the pairs of both are those marked before.
 -- Assumes nothing.
 use mathlib.Core.Path.{sym, ap, _∙_}
-use mathlib.Core.List.{[], _∷_}
-use denote.Ref.{now}
 use borrow.Author.Needs.{needs}
 use Rattle.numbers.specs.Sizes.{ours}
 use Rattle.matrix.specs.Matrix.{crossed}
@@ -22,10 +20,7 @@ same-length c = search needs
 
 returns : tie.Need-returns
 returns c =
-    let a = c .before .before .before .before .before .before .args in
-    by-parts
-    (c .before .before .before .cross .ensures
-    ∙ ap (crossed (ours .words) (a .first .o ∷ []) (a .second .l ∷ [])) (sym (self-into (ours .words) (now (a .pairs)))))
+    by-parts (c .before .before .before .cross .ensures ∙ ap (crossed (ours .words) _ _) (sym (self-into (ours .words) _)))
     (c .joined-with .ensures .0) (c .joined-with .ensures .1)
 
 pub sequence-spec : {M : Type 1} → statement M
