@@ -11,7 +11,7 @@ use lib.Bits.{bitOr}
 use lib.Dec.{eqb}
 use lib.ListN.{length, getD}
 use Rattle.calculus.specs.Syntax.{Stmt, skip, step, seq, loop, async, finish, call, Program, body}
-use Rattle.labels.specs.Words.{bit, changed}
+use Rattle.labels.specs.Words.{bit}
 use Rattle.labels.proofs.BitLaws.{bit-lt, bit-of-zero, bit-or, bit-times, bit-of-power}
 use Rattle.labels.proofs.ChangedLaws.{length-changed, changed-below}
 use Rattle.numbers.specs.General.{oneIf, every}
@@ -86,7 +86,8 @@ module _ (p : Program) (n : ℕ) (sets : List ℕ) (room : n ≤ length sets) wh
       ∙ max-or (reached p k f g) (reached p k f k && reached p k k g)
 
   -- The closed sets tell whether a procedure reaches itself.
-  pub own-sets : n ≡ length p → noneInOwn n (closed n) ≡ every (length p) (λ f. not (reached p (length p) f f))
-  own-sets size =
-      subst (λ (m : ℕ). noneInOwn n (closed n) ≡ every m (λ f. not (reached p m f f))) size
-      (every-alike n _ _ (λ f l. ap (λ (x : ℕ). eqb x 0) (closed-bit n (le-refl n) f l f) ∙ none-is-not (reached p n f f)))
+  pub sets-wide : n ≡ length p → not (noneInOwn n (closed n)) ≡ wide p
+  sets-wide size =
+      ap not
+      (subst (λ (m : ℕ). noneInOwn n (closed n) ≡ every m (λ f. not (reached p m f f))) size
+      (every-alike n _ _ (λ f l. ap (λ (x : ℕ). eqb x 0) (closed-bit n (le-refl n) f l f) ∙ none-is-not (reached p n f f))))

@@ -12,7 +12,7 @@ use Rattle.recipe.specs.Tables.{Table, tableOf, procs}
 use Rattle.recipe.proofs.Admitted.{sizes-right}
 use Rattle.recipe.proofs.Readings.{program-length}
 use Rattle.calls.specs.Inner.{closedBelow, noneInOwn}
-use Rattle.calls.proofs.SetLaws.{own-sets}
+use Rattle.calls.proofs.SetLaws.{sets-wide}
 use Rattle.calls.proofs.reach.reaches_itself.Statement.{statement}
 use Rattle.calls.proofs.reach.reaches_itself.Tie as tie
 
@@ -59,8 +59,8 @@ returns c =
     let t = table (before-direct d) in
     let n = procs t in
     ap not (c .none-in-own .ensures
-    ∙ ap (noneInOwn n) (c .before .before .before .close .ensures ∙ ap (closedBelow n n) (d .before .before .direct-calls .ensures))
-    ∙ own-sets (programOf t) n _ (few (before-direct d)) (sym (program-length t)))
+    ∙ ap (noneInOwn n) (c .before .before .before .close .ensures ∙ ap (closedBelow n n) (d .before .before .direct-calls .ensures)))
+    ∙ sets-wide (programOf t) n _ (few (before-direct d)) (sym (program-length t))
 
 pub reaches-itself-spec : {M : Type 1} → statement M
 reaches-itself-spec =
