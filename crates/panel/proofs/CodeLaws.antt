@@ -3,14 +3,16 @@
 use mathlib.Core.List.{List}
 use Prim.Native.Nat.{ℕ, min}
 use native.Mathlib.Omega.{arith}
-use Rattle.numbers.specs.Ceilings.{rowCeiling, procCeiling}
-use Rattle.sheet.specs.Reading.{Reading, table, refused, readSheet, replyOf}
-use Rattle.sheet.proofs.Within.{Within, sheet-within}
-use Rattle.panel.specs.Codes.{WithinCeilings}
+use Rattle.numbers.specs.Sizes.{ours, rowCeiling}
+use Rattle.table.specs.Reading.{Reading, table, refused, replyOf}
+use Rattle.sheet.specs.Reading.{readSheet}
+use Rattle.sheet.proofs.SheetForms.{Within, sheet-within}
+use Rattle.panel.specs.Inner.{WithinCeilings}
 
-reply-within : (R P : ℕ) (w : Reading) → Within (min rowCeiling R) (min procCeiling P) w → WithinCeilings (replyOf w)
+reply-within : (R P : ℕ) (w : Reading) → Within (min rowCeiling R) (min (ours .procs) P) w → WithinCeilings (replyOf w)
 reply-within R P (table rows roots) c = (omega (arith, c .rows), omega (arith, c .roots))
 reply-within R P (refused why) c = tt
 
-pub reading-within : (rowPlaces rootPlaces : ℕ) (bytes : List ℕ) → WithinCeilings (replyOf (readSheet rowPlaces rootPlaces bytes))
-reading-within rowPlaces rootPlaces bytes = reply-within rowPlaces rootPlaces (readSheet rowPlaces rootPlaces bytes) (sheet-within rowPlaces rootPlaces bytes)
+pub reading-within : (rowsLent rootsLent : ℕ) (bytes : List ℕ) → WithinCeilings (replyOf (readSheet ours rowsLent rootsLent bytes))
+reading-within rowsLent rootsLent bytes =
+    reply-within rowsLent rootsLent (readSheet ours rowsLent rootsLent bytes) (sheet-within ours rowsLent rootsLent bytes)

@@ -12,12 +12,14 @@ use prog.Wp.{Heap}
 use ghost.Atoms.{Atoms}
 use contract.Monad.{Fun, fact}
 use denote.Ref.{now}
+use Rattle.numbers.specs.General.{laid}
+use Rattle.numbers.specs.Sizes.{ours}
 use Rattle.recipe.specs.declared.Row.{Row}
 use Rattle.recipe.specs.Records.{tableOfRows}
 use Rattle.analysis.specs.Replies.{analysed, matrixAfter}
 use Rattle.listing.specs.Replies.{listed, matrixListed, bytesListed}
-use Rattle.sheet.specs.Reading.{rowsOf, rootsOf, replyOf, laid}
-use Rattle.sheet_records.specs.Records.{readRecords}
+use Rattle.table.specs.Reading.{rowsOf, rootsOf, replyOf}
+use Rattle.records.specs.Records.{readRecords}
 use Rattle.panel.specs.Codes.{analysedCode, readCode, listedCode}
 use Rattle.panel.proofs.bushkalote_analyse.Reads.{Post as analyse-post}
 use Rattle.panel.proofs.bushkalote_read_sheet.Reads.{Post as read-sheet-post}
@@ -45,21 +47,21 @@ list-pairs-determined κs a r r' s s' p q = (p .0 ∙ sym (q .0), p .1 .0 ∙ sy
 -- The number n for these rows, these roots and the matrix m, and the matrix m' after it.
 abbrev pub Analyses : List Row → List ℕ → List ℕ → ℕ → List ℕ → Type 0
 Analyses rows roots m n m' =
-    (n ≡ analysedCode (analysed (tableOfRows rows roots) (length m))) × (m' ≡ matrixAfter (tableOfRows rows roots) m)
+    let t = tableOfRows rows roots in (n ≡ analysedCode (analysed ours t (length m))) × (m' ≡ matrixAfter ours t m)
 
 -- The number n for a sheet's bytes, these rows and these roots, and the rows and the roots after it.
 abbrev pub Reads : List ℕ → List Row → List ℕ → ℕ → List Row → List ℕ → Type 0
 Reads bytes rows roots n rows' roots' =
-    (n ≡ readCode (replyOf (readRecords bytes rows roots)))
-    × (rows' ≡ laid (rowsOf (readRecords bytes rows roots)) rows)
-    × (roots' ≡ laid (rootsOf (readRecords bytes rows roots)) roots)
+    let w = readRecords ours bytes rows roots in
+    (n ≡ readCode (replyOf w)) × (rows' ≡ laid (rowsOf w) rows) × (roots' ≡ laid (rootsOf w) roots)
 
 -- The number n for these rows, these roots, the matrix m and the bytes b, and the matrix m' and the bytes b' after it.
 abbrev pub Lists : List Row → List ℕ → List ℕ → List ℕ → ℕ → List ℕ → List ℕ → Type 0
 Lists rows roots m b n m' b' =
-    (n ≡ listedCode (listed (tableOfRows rows roots) (length m) (length b)))
-    × (m' ≡ matrixListed (tableOfRows rows roots) m (length b))
-    × (b' ≡ bytesListed (tableOfRows rows roots) (length m) b)
+    let t = tableOfRows rows roots in
+    (n ≡ listedCode (listed ours t (length m) (length b)))
+    × (m' ≡ matrixListed ours t m (length b))
+    × (b' ≡ bytesListed ours t (length m) b)
 
 -- They are the clauses of the contracts, word for word.
 module _ {M : Type 1} (𝓤 : URA M) (H : Heap 𝓤) (A : Atoms 𝓤) (mem : Memory → SProp 𝓤) (run : Routine → Fun 𝓤) where

@@ -1,24 +1,34 @@
 // The way in from C: each entry on plain slices and on a slice of row records, a slice as a pointer and a length. A reply is one number (panel.h).
 ghost use mathlib.Core.Path.{_≡_};
 ghost use lib.ListN.{length};
+ghost use Rattle.numbers.specs.General.{laid};
+ghost use Rattle.numbers.specs.Sizes.{ours};
 ghost use Rattle.recipe.specs.Tables.{tableOf};
-ghost use Rattle.analysis.specs.Replies.{analysed, matrixAfter};
 ghost use Rattle.recipe.specs.Records.{kindsOf, xsOf, ysOf, tableOfRows};
-ghost use Rattle.sheet.specs.Reading.{readInto, rowsOf, rootsOf, replyOf, laid};
-ghost use Rattle.sheet_records.specs.Records.{readRecords};
+ghost use Rattle.analysis.specs.Replies.{analysed, matrixAfter};
 ghost use Rattle.listing.specs.Replies.{listed, matrixListed, bytesListed};
-ghost use Rattle.panel.specs.Codes.{refusalCode, analysedCode, readCode, listedCode, WithinCeilings};
+ghost use Rattle.table.specs.Reading.{rowsOf, rootsOf, replyOf};
+ghost use Rattle.sheet.specs.Reading.{readInto};
+ghost use Rattle.records.specs.Records.{readRecords};
+ghost use Rattle.panel.specs.Codes.{refusalCode, analysedCode, readCode, listedCode};
+ghost use Rattle.panel.specs.Inner.{WithinCeilings};
 use analysis::Analysed;
 use listing::Listed;
 use numbers::Refusal;
 use recipe::Row;
-use sheet::Read;
+use table::Read;
+
+// A refusal's number counts in units of 2^32, and so stands above every place, count and length.
+const NUMBER_UNIT: u64 = 4294967296;
+
+// The number of procedures counts in units of 65,536, and so stands above the number of rows.
+const PROCS_UNIT: u64 = 65536;
 
 // A refusal as one number.
 fn refusal_code(r: Refusal) -> u64
     ensures { λ n. ⌜ n ≡ refusalCode r ⌝ }
 {
-    (r.number() as u64) * 4294967296 + (r.place() as u64)
+    (r.number() as u64) * NUMBER_UNIT + (r.place() as u64)
 }
 
 // A reply of the analysis as one number.
@@ -37,7 +47,7 @@ fn read_code(reply: Read) -> u64
     ensures { λ n. ⌜ n ≡ readCode reply ⌝ }
 {
     match reply {
-        Read::Stored(rows, procs) => (rows as u64) + 65536 * (procs as u64),
+        Read::Stored(rows, procs) => (rows as u64) + PROCS_UNIT * (procs as u64),
         Read::Refused(r) => refusal_code(r),
     }
 }
@@ -61,8 +71,10 @@ pub extern "C" fn bushkalote_analyse(
     roots: &[u16],
     matrix: &mut [u64],
 ) -> u64
-    ensures { λ n. ⌜ n ≡ analysedCode (analysed (tableOf (now (kinds .entry)) (now (xs .entry)) (now (ys .entry)) (now (roots .entry))) (length (now (matrix .entry)))) ⌝ }
-    ensures { λ _. ⌜ now (matrix .exit) ≡ matrixAfter (tableOf (now (kinds .entry)) (now (xs .entry)) (now (ys .entry)) (now (roots .entry))) (now (matrix .entry)) ⌝ }
+    ensures reply { λ n. let t = tableOf (now (kinds .entry)) (now (xs .entry)) (now (ys .entry)) (now (roots .entry)) in
+        ⌜ n ≡ analysedCode (analysed ours t (length (now (matrix .entry)))) ⌝ }
+    ensures pairs { λ _. let t = tableOf (now (kinds .entry)) (now (xs .entry)) (now (ys .entry)) (now (roots .entry)) in
+        ⌜ now (matrix .exit) ≡ matrixAfter ours t (now (matrix .entry)) ⌝ }
 {
     analysed_code(analysis::analyse(kinds, xs, ys, roots, matrix))
 }
@@ -76,11 +88,12 @@ pub extern "C" fn bushkalote_read_sheet(
     ys: &mut [u16],
     roots: &mut [u16],
 ) -> u64
-    ensures { λ n. ⌜ n ≡ readCode (replyOf (readInto (now (bytes .entry)) (now (kinds .entry)) (now (xs .entry)) (now (ys .entry)) (now (roots .entry)))) ⌝ }
-    ensures { λ _. ⌜ now (kinds .exit) ≡ laid (kindsOf (rowsOf (readInto (now (bytes .entry)) (now (kinds .entry)) (now (xs .entry)) (now (ys .entry)) (now (roots .entry))))) (now (kinds .entry)) ⌝ }
-    ensures { λ _. ⌜ now (xs .exit) ≡ laid (xsOf (rowsOf (readInto (now (bytes .entry)) (now (kinds .entry)) (now (xs .entry)) (now (ys .entry)) (now (roots .entry))))) (now (xs .entry)) ⌝ }
-    ensures { λ _. ⌜ now (ys .exit) ≡ laid (ysOf (rowsOf (readInto (now (bytes .entry)) (now (kinds .entry)) (now (xs .entry)) (now (ys .entry)) (now (roots .entry))))) (now (ys .entry)) ⌝ }
-    ensures { λ _. ⌜ now (roots .exit) ≡ laid (rootsOf (readInto (now (bytes .entry)) (now (kinds .entry)) (now (xs .entry)) (now (ys .entry)) (now (roots .entry)))) (now (roots .entry)) ⌝ }
+    ensures { λ n. let w = readInto ours (now (bytes .entry)) (now (kinds .entry)) (now (xs .entry)) (now (ys .entry)) (now (roots .entry)) in
+        ⌜ (n ≡ readCode (replyOf w))
+        × ((now (kinds .exit) ≡ laid (kindsOf (rowsOf w)) (now (kinds .entry)))
+        × ((now (xs .exit) ≡ laid (xsOf (rowsOf w)) (now (xs .entry)))
+        × ((now (ys .exit) ≡ laid (ysOf (rowsOf w)) (now (ys .entry)))
+        × (now (roots .exit) ≡ laid (rootsOf w) (now (roots .entry)))))) ⌝ }
 {
     read_code(sheet::read_sheet(bytes, kinds, xs, ys, roots))
 }
@@ -95,9 +108,12 @@ pub extern "C" fn bushkalote_list_pairs(
     matrix: &mut [u64],
     bytes: &mut [u8],
 ) -> u64
-    ensures { λ n. ⌜ n ≡ listedCode (listed (tableOf (now (kinds .entry)) (now (xs .entry)) (now (ys .entry)) (now (roots .entry))) (length (now (matrix .entry))) (length (now (bytes .entry)))) ⌝ }
-    ensures { λ _. ⌜ now (matrix .exit) ≡ matrixListed (tableOf (now (kinds .entry)) (now (xs .entry)) (now (ys .entry)) (now (roots .entry))) (now (matrix .entry)) (length (now (bytes .entry))) ⌝ }
-    ensures { λ _. ⌜ now (bytes .exit) ≡ bytesListed (tableOf (now (kinds .entry)) (now (xs .entry)) (now (ys .entry)) (now (roots .entry))) (length (now (matrix .entry))) (now (bytes .entry)) ⌝ }
+    ensures reply { λ n. let t = tableOf (now (kinds .entry)) (now (xs .entry)) (now (ys .entry)) (now (roots .entry)) in
+        ⌜ n ≡ listedCode (listed ours t (length (now (matrix .entry))) (length (now (bytes .entry)))) ⌝ }
+    ensures pairs { λ _. let t = tableOf (now (kinds .entry)) (now (xs .entry)) (now (ys .entry)) (now (roots .entry)) in
+        ⌜ now (matrix .exit) ≡ matrixListed ours t (now (matrix .entry)) (length (now (bytes .entry))) ⌝ }
+    ensures text { λ _. let t = tableOf (now (kinds .entry)) (now (xs .entry)) (now (ys .entry)) (now (roots .entry)) in
+        ⌜ now (bytes .exit) ≡ bytesListed ours t (length (now (matrix .entry))) (now (bytes .entry)) ⌝ }
 {
     listed_code(listing::list_pairs(kinds, xs, ys, roots, matrix, bytes))
 }
@@ -105,8 +121,9 @@ pub extern "C" fn bushkalote_list_pairs(
 // The analysis on row records, for a caller in C.
 #[no_mangle]
 pub extern "C" fn bushkalote_analyse_rows(rows: &[Row], roots: &[u16], matrix: &mut [u64]) -> u64
-    ensures { λ n. ⌜ (n ≡ analysedCode (analysed (tableOfRows (now (rows .entry)) (now (roots .entry))) (length (now (matrix .entry)))))
-        × (now (matrix .exit) ≡ matrixAfter (tableOfRows (now (rows .entry)) (now (roots .entry))) (now (matrix .entry))) ⌝ }
+    ensures { λ n. let t = tableOfRows (now (rows .entry)) (now (roots .entry)) in
+        ⌜ (n ≡ analysedCode (analysed ours t (length (now (matrix .entry)))))
+        × (now (matrix .exit) ≡ matrixAfter ours t (now (matrix .entry))) ⌝ }
 {
     analysed_code(records::analyse_rows(rows, roots, matrix))
 }
@@ -114,11 +131,12 @@ pub extern "C" fn bushkalote_analyse_rows(rows: &[Row], roots: &[u16], matrix: &
 // The reader into row records, for a caller in C.
 #[no_mangle]
 pub extern "C" fn bushkalote_read_rows(bytes: &[u8], rows: &mut [Row], roots: &mut [u16]) -> u64
-    ensures { λ n. ⌜ (n ≡ readCode (replyOf (readRecords (now (bytes .entry)) (now (rows .entry)) (now (roots .entry)))))
-        × (now (rows .exit) ≡ laid (rowsOf (readRecords (now (bytes .entry)) (now (rows .entry)) (now (roots .entry)))) (now (rows .entry)))
-        × (now (roots .exit) ≡ laid (rootsOf (readRecords (now (bytes .entry)) (now (rows .entry)) (now (roots .entry)))) (now (roots .entry))) ⌝ }
+    ensures { λ n. let w = readRecords ours (now (bytes .entry)) (now (rows .entry)) (now (roots .entry)) in
+        ⌜ (n ≡ readCode (replyOf w))
+        × (now (rows .exit) ≡ laid (rowsOf w) (now (rows .entry)))
+        × (now (roots .exit) ≡ laid (rootsOf w) (now (roots .entry))) ⌝ }
 {
-    read_code(sheet_records::read_rows(bytes, rows, roots))
+    read_code(records::read_rows(bytes, rows, roots))
 }
 
 // The listing on row records, for a caller in C.
@@ -129,9 +147,10 @@ pub extern "C" fn bushkalote_list_rows(
     matrix: &mut [u64],
     bytes: &mut [u8],
 ) -> u64
-    ensures { λ n. ⌜ (n ≡ listedCode (listed (tableOfRows (now (rows .entry)) (now (roots .entry))) (length (now (matrix .entry))) (length (now (bytes .entry)))))
-        × (now (matrix .exit) ≡ matrixListed (tableOfRows (now (rows .entry)) (now (roots .entry))) (now (matrix .entry)) (length (now (bytes .entry))))
-        × (now (bytes .exit) ≡ bytesListed (tableOfRows (now (rows .entry)) (now (roots .entry))) (length (now (matrix .entry))) (now (bytes .entry))) ⌝ }
+    ensures { λ n. let t = tableOfRows (now (rows .entry)) (now (roots .entry)) in
+        ⌜ (n ≡ listedCode (listed ours t (length (now (matrix .entry))) (length (now (bytes .entry)))))
+        × (now (matrix .exit) ≡ matrixListed ours t (now (matrix .entry)) (length (now (bytes .entry))))
+        × (now (bytes .exit) ≡ bytesListed ours t (length (now (matrix .entry))) (now (bytes .entry))) ⌝ }
 {
     listed_code(records::list_rows(rows, roots, matrix, bytes))
 }

@@ -16,7 +16,8 @@ same-length : tie.Need-same-length
 same-length c = search needs
 
 returns : tie.Need-returns
-returns c = (c .analysed-code .ensures ∙ ap analysedCode (c .before .before .before .analyse .ensures .0), c .before .before .before .analyse .ensures .1)
+returns c =
+    let given = c .before .before .before .analyse .ensures in (c .analysed-code .ensures ∙ ap analysedCode (given .0), given .1)
 
 pub bushkalote-analyse-spec : {M : Type 1} → statement M
 bushkalote-analyse-spec =

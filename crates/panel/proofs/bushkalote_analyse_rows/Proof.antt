@@ -30,11 +30,12 @@ use denote.Triple.Call.{calls-at}
 use denote.Triple.Spec.{Meets, tripleOf}
 use denote.Triple.Statement.{Contract, Triple}
 use denote.Triple.Table.{entered, cited}
+use Rattle.numbers.specs.Sizes.{ours}
 use Rattle.recipe.specs.declared.Row.{Row}
 use Rattle.analysis.specs.declared.Analysed.{Analysed}
 use Rattle.analysis.proofs.Analysed as S
 use Rattle.analysis.proofs.Analysed.Laws as S′
-use Rattle.memory.proofs.RowMemory.{R}
+use Rattle.table.proofs.RowMemory.{R}
 use Rattle.records.specs.Records.{Answers}
 use Rattle.records.proofs.analyse_rows as worked
 use Rattle.records.proofs.analyse_rows.Symbol as worked-def
@@ -85,7 +86,7 @@ module _ {M : Type 1} (𝓤 : URA M) (H : Heap 𝓤) (A : Atoms 𝓤) (mem : Mem
           -- [_6; …; down to room for _0; …; what the first call asks]
           move ! (14 ∷ []) $ calls-at ! (fmOf 𝓤 H (W .laws) 𝓣) Worked known-worked given
           (and-then ! (load ! (from ! (stop !)) (look ! 11 refl)) (and-then ! (load ! (from ! (stop !)) (look ! 9 refl)) (and-then ! (load ! (from ! (stop !)) (look ! 1 refl)) (no-more !)))) (λ u.
-          received 𝓤 H A worked.ended (worked.clauses 𝓤 H A mem run) ! tt given u (λ r ws. heard ! (Answers (now x) (now y) (now z) r (ws .1 .1 .0)) (λ e.
+          received 𝓤 H A worked.ended (worked.clauses 𝓤 H A mem run) ! tt given u (λ r ws. heard ! (Answers ours (now x) (now y) (now z) r (ws .1 .1 .0)) (λ e.
           -- [the reply; the tokens; the last values; _6; …]
           peeks ! S.the-row (Is S.the-row) (shows 𝓤 H A S.the-row) r (u ∷ []) (λ is. land ! (from ! (stop !)) (init ! 7 refl (EL.lawful S.the-type S′.the-laws 𝓤 H A W tt .typed r _ is .0)) $
           use1 W (raw (Coded .pre (to-coded r u))) (goes-on r u) $ calls-at ! (fmOf 𝓤 H (W .laws) 𝓣) Coded known-coded (to-coded r u) (and-then ! (load ! (from ! (stop !)) (look ! 7 refl)) (no-more !)) (λ v.

@@ -19,7 +19,9 @@ same-length-2 : tie.Need-same-length-2
 same-length-2 c = search needs
 
 returns : tie.Need-returns
-returns c = (c .listed-code .ensures ∙ ap listedCode (c .before .before .before .before .before .list-pairs .ensures .0), c .before .before .before .before .before .list-pairs .ensures .1)
+returns c =
+    let given = c .before .before .before .before .before .list-pairs .ensures in
+    (c .listed-code .ensures ∙ ap listedCode (given .0), given .1)
 
 pub bushkalote-list-pairs-spec : {M : Type 1} → statement M
 bushkalote-list-pairs-spec =

@@ -31,17 +31,19 @@ use denote.Triple.Spec.{Meets, tripleOf}
 use denote.Triple.Statement.{Contract, Triple}
 use denote.Triple.Table.{entered, cited}
 use denote.Triple.Walked.{says}
+use Rattle.numbers.specs.Sizes.{ours}
 use Rattle.recipe.specs.declared.Row.{Row}
-use Rattle.sheet.specs.declared.Read.{Read}
-use Rattle.sheet.proofs.Read as S
-use Rattle.sheet.proofs.Read.Laws as S′
-use Rattle.memory.proofs.RowMemory.{R}
-use Rattle.sheet_records.specs.Records.{Reads}
-use Rattle.sheet_records.proofs.read_rows as worked
-use Rattle.sheet_records.proofs.read_rows.Symbol as worked-def
-use Rattle.sheet_records.proofs.read_rows.Symbol.{name as #sheet-records·read-rows}
-use Rattle.sheet_records.proofs.read_rows.Met as worked-thm
-use Rattle.panel.specs.Codes.{readCode, WithinCeilings}
+use Rattle.table.specs.declared.Read.{Read}
+use Rattle.table.proofs.Read as S
+use Rattle.table.proofs.Read.Laws as S′
+use Rattle.table.proofs.RowMemory.{R}
+use Rattle.records.specs.Records.{Reads}
+use Rattle.records.proofs.read_rows as worked
+use Rattle.records.proofs.read_rows.Symbol as worked-def
+use Rattle.records.proofs.read_rows.Symbol.{name as #records·read-rows}
+use Rattle.records.proofs.read_rows.Met as worked-thm
+use Rattle.panel.specs.Codes.{readCode}
+use Rattle.panel.specs.Inner.{WithinCeilings}
 use Rattle.panel.proofs.CodeLaws.{reading-within}
 use Rattle.panel.proofs.HandedOn.{spelled, received, promise-kept}
 use Rattle.panel.proofs.read_code as coded
@@ -64,7 +66,7 @@ module _ {M : Type 1} (𝓤 : URA M) (H : Heap 𝓤) (A : Atoms 𝓤) (mem : Mem
   abbrev Coded : Contract 𝓤
   Coded = tripleOf 𝓤 H A coded.signature (coded.spec 𝓤 H A mem run)
 
-  module _ (W : Given 𝓤 H A) (𝓣 : Tables 𝓤 H) (known-worked : Triple 𝓤 (𝓣 .C #sheet-records·read-rows) Worked) (known-coded : Triple 𝓤 (𝓣 .C #panel·read-code) Coded) where
+  module _ (W : Given 𝓤 H A) (𝓣 : Tables 𝓤 H) (known-worked : Triple 𝓤 (𝓣 .C #records·read-rows) Worked) (known-coded : Triple 𝓤 (𝓣 .C #panel·read-code) Coded) where
     -- what the second call is passed
     abbrev to-coded : Read → Val → Coded .Ghost
     to-coded r u = ((tt, tt, tt, (r, tt), (u ∷ [], tt)), tt)
@@ -89,7 +91,7 @@ module _ {M : Type 1} (𝓤 : URA M) (H : Heap 𝓤) (A : Atoms 𝓤) (mem : Mem
           -- [_8; …; down to room for _0; …; what the first call asks]
           move ! (18 ∷ []) $ calls-at ! (fmOf 𝓤 H (W .laws) 𝓣) Worked known-worked given
           (and-then ! (load ! (from ! (stop !)) (look ! 15 refl)) (and-then ! (load ! (from ! (stop !)) (look ! 5 refl)) (and-then ! (load ! (from ! (stop !)) (look ! 1 refl)) (no-more !)))) (λ u.
-          received 𝓤 H A worked.ended (worked.clauses 𝓤 H A mem run) ! tt given u (λ r ws. heard ! (Reads (now b) (now x) (now y) r (ws .1 .0) (ws .1 .1 .0)) (λ e.
+          received 𝓤 H A worked.ended (worked.clauses 𝓤 H A mem run) ! tt given u (λ r ws. heard ! (Reads ours (now b) (now x) (now y) r (ws .1 .0) (ws .1 .1 .0)) (λ e.
           -- [the reply; the tokens; the last values; _8; …]
           peeks ! S.the-row (Is S.the-row) (shows 𝓤 H A S.the-row) r (u ∷ []) (λ is. land ! (from ! (stop !)) (init ! 11 refl (EL.lawful S.the-type S′.the-laws 𝓤 H A W tt .typed r _ is .0)) $
           use1 W (raw (Coded .pre (to-coded r u))) (goes-on r u (subst WithinCeilings (sym (e .0)) (reading-within _ _ _))) $ calls-at ! (fmOf 𝓤 H (W .laws) 𝓣) Coded known-coded (to-coded r u) (and-then ! (load ! (from ! (stop !)) (look ! 11 refl)) (no-more !)) (λ v.
@@ -110,5 +112,5 @@ unfolding code.routine tablesOf
 bushkalote-read-rows-spec 𝓤 H 𝓜 𝓖 𝓡 =
     entered 𝓤 H (Entered 𝓤 H (𝓖 .A) (𝓜 .mem) (𝓡 .run)) (tables 𝓤 H 𝓜 𝓡 code.env .C) (tables 𝓤 H 𝓜 𝓡 code.env .Λ) #panel·bushkalote-read-rows code.function (code.unfolded 𝓤 H 𝓜 𝓡)
     (meets 𝓤 H (𝓖 .A) (𝓜 .mem) (𝓡 .run) (givenOf 𝓤 H 𝓜 𝓖) (tablesOf 𝓤 H 𝓜 (tables 𝓤 H 𝓜 𝓡 code.env))
-    (cited 𝓤 H (Worked 𝓤 H (𝓖 .A) (𝓜 .mem) (𝓡 .run)) 𝓜 𝓡 code.env #sheet-records·read-rows worked-def.routine code.calls-sheet-records·read-rows (worked-thm.met 𝓤 H 𝓜 𝓖 𝓡))
+    (cited 𝓤 H (Worked 𝓤 H (𝓖 .A) (𝓜 .mem) (𝓡 .run)) 𝓜 𝓡 code.env #records·read-rows worked-def.routine code.calls-records·read-rows (worked-thm.met 𝓤 H 𝓜 𝓖 𝓡))
     (cited 𝓤 H (Coded 𝓤 H (𝓖 .A) (𝓜 .mem) (𝓡 .run)) 𝓜 𝓡 code.env #panel·read-code coded-def.routine code.calls-panel·read-code (coded-thm.met 𝓤 H 𝓜 𝓖 𝓡)))

@@ -1,7 +1,8 @@
 -- `bushkalote_read_sheet` meets its contract: it hands on the reader's reply as its code, and no reading passes the ceilings.
 -- Assumes nothing.
 use mathlib.Core.Path.{sym, ap, _∙_, subst}
-use Rattle.panel.specs.Codes.{readCode, WithinCeilings}
+use Rattle.panel.specs.Codes.{readCode}
+use Rattle.panel.specs.Inner.{WithinCeilings}
 use Rattle.panel.proofs.CodeLaws.{reading-within}
 use borrow.Author.Needs.{needs}
 use Rattle.panel.proofs.bushkalote_read_sheet.Statement.{statement}
@@ -12,7 +13,8 @@ read-sheet-requires c κs = search needs
 
 read-code-requires : tie.Need-read-code-requires
 read-code-requires c κs =
-    subst WithinCeilings (sym (c .before .before .before .before .before .before .before .before .read-sheet .ensures .0)) (reading-within _ _ _)
+    let read = c .before .before .before .before .before .before .before .before .read-sheet .ensures in
+    subst WithinCeilings (sym (read .0)) (reading-within _ _ _)
 
 same-length : tie.Need-same-length
 same-length c = search needs
@@ -27,7 +29,9 @@ same-length-4 : tie.Need-same-length-4
 same-length-4 c = search needs
 
 returns : tie.Need-returns
-returns c = (c .read-code .ensures ∙ ap readCode (c .before .before .before .before .before .before .before .before .before .read-sheet .ensures .0), c .before .before .before .before .before .before .before .before .before .read-sheet .ensures .1)
+returns c =
+    let read = c .before .before .before .before .before .before .before .before .before .read-sheet .ensures in
+    (c .read-code .ensures ∙ ap readCode (read .0), read .1)
 
 pub bushkalote-read-sheet-spec : {M : Type 1} → statement M
 bushkalote-read-sheet-spec =

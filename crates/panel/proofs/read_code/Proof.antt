@@ -1,7 +1,8 @@
 -- `read_code` meets its contract: each case is its own code, and within the ceilings the numbers fit.
 -- Assumes nothing.
 use mathlib.Core.Path.{sym, ap, _∙_, subst}
-use Rattle.panel.specs.Codes.{readCode, WithinCeilings}
+use Rattle.panel.specs.Codes.{readCode}
+use Rattle.panel.specs.Inner.{WithinCeilings}
 use borrow.Author.Needs.{needs}
 use native.Mathlib.Omega.{arith}
 use Rattle.panel.proofs.read_code.Statement.{statement}

@@ -35,7 +35,7 @@ returns c =
     let room = sheet-within ours (a .places) places (now (a .bytes)) in (
       held,
       stored .store-roots .ensures
-      ∙ held-roots (readSheet ours (a .places) places (now (a .bytes))) held (now (a .roots)) (told .reported .ensures .1) (omega (arith, room .roots)),
+          ∙ held-roots (readSheet ours (a .places) places (now (a .bytes))) held (now (a .roots)) (told .reported .ensures .1) (omega (arith, room .roots)),
     )
 
 pub take-sheet-spec : {M : Type 1} → statement M
