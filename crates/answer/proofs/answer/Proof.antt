@@ -1,0 +1,144 @@
+-- `answer` meets its contract: a refusal of the reader is the answer, and else the table that was read is answered, from the front of the
+-- slices that were lent for it. Assumes nothing.
+use mathlib.Core.Path.{sym, _∙_}
+use denote.Ref.{now}
+use lib.Seq.{length-take-le}
+use Rattle.numbers.specs.Sizes.{ours, rowCeiling}
+use Rattle.table.specs.Reading.{Reading}
+use Rattle.sheet.specs.Reading.{readSheet}
+use Rattle.answer.specs.Answer.{answerTo}
+use Rattle.answer.proofs.ReadLaws.{StoredTable, refused-replied, kinds-within, xs-within, ys-within, roots-within, table-replied}
+use borrow.Author.Needs.{needs}
+use Rattle.answer.proofs.answer.Statement.{statement}
+use Rattle.answer.proofs.answer.Tie as tie
+
+-- What reading the sheet comes to.
+abbrev reading : tie.After-read-sheet → Reading
+reading c = readSheet ours rowCeiling (ours .procs) (now (c .before .before .before .before .before .before .before .args .sheet))
+
+-- From where a table is answered back to its reading.
+abbrev at-table : tie.After-answer-table-arg → tie.After-rows
+at-table c = c .before .before
+
+abbrev read-before : tie.After-rows → tie.After-read-sheet
+read-before c = c .before .before .before .before .before .before
+
+-- From a refusal back to the reading.
+abbrev read-refused : tie.After-refusal → tie.After-read-sheet
+read-refused c = c .before .before .before .before .before .before
+
+-- What the reader left, where it stored a table.
+held :
+    (c : tie.After-rows) → let left = read-before c .read-sheet .last .1 in
+    StoredTable (reading (read-before c)) (c .rows .given .0 .0) (c .rows .given .0 .1 .0) (left .0) (left .1 .0) (left .1 .1 .0) (left .1 .1 .1 .0)
+held c =
+    let given = read-before c .read-sheet .ensures in
+    record {
+      reply = sym (given .0) ∙ c .rows .given .1;
+      inKinds = record { old = _; over = given .1 .0 };
+      inXs = record { old = _; over = given .1 .1 .0 };
+      inYs = record { old = _; over = given .1 .1 .1 .0 };
+      inRoots = record { old = _; over = given .1 .1 .1 .1 };
+    }
+
+slice-aggregate-read-sheet : tie.Need-slice-aggregate-read-sheet
+slice-aggregate-read-sheet c = search needs
+
+slice-aggregate-read-sheet-2 : tie.Need-slice-aggregate-read-sheet-2
+slice-aggregate-read-sheet-2 c = search needs
+
+slice-aggregate-read-sheet-3 : tie.Need-slice-aggregate-read-sheet-3
+slice-aggregate-read-sheet-3 c = search needs
+
+slice-aggregate-read-sheet-4 : tie.Need-slice-aggregate-read-sheet-4
+slice-aggregate-read-sheet-4 c = search needs
+
+read-sheet-requires : tie.Need-read-sheet-requires
+read-sheet-requires c κs = search needs
+
+enum-known-refusal : tie.Need-enum-known-refusal
+enum-known-refusal c = search needs
+
+refuse-requires : tie.Need-refuse-requires
+refuse-requires c κs = search needs
+
+enum-known-rows : tie.Need-enum-known-rows
+enum-known-rows c = search needs
+
+array-share-prefix-kinds : tie.Need-array-share-prefix-kinds
+array-share-prefix-kinds c =
+    kinds-within (held (at-table c))
+
+slice-aggregate-answer-table : tie.Need-slice-aggregate-answer-table
+slice-aggregate-answer-table c =
+    sym (length-take-le _ _ (kinds-within (held (at-table (c .before)))))
+
+array-share-prefix-xs : tie.Need-array-share-prefix-xs
+array-share-prefix-xs c =
+    xs-within (held (at-table (c .before)))
+
+slice-aggregate-answer-table-2 : tie.Need-slice-aggregate-answer-table-2
+slice-aggregate-answer-table-2 c =
+    sym (length-take-le _ _ (xs-within (held (at-table (c .before .before)))))
+
+array-share-prefix-ys : tie.Need-array-share-prefix-ys
+array-share-prefix-ys c =
+    ys-within (held (at-table (c .before .before)))
+
+slice-aggregate-answer-table-3 : tie.Need-slice-aggregate-answer-table-3
+slice-aggregate-answer-table-3 c =
+    sym (length-take-le _ _ (ys-within (held (at-table (c .before .before .before)))))
+
+array-share-prefix-roots : tie.Need-array-share-prefix-roots
+array-share-prefix-roots c =
+    roots-within (held (at-table (c .before .before .before)))
+
+slice-aggregate-answer-table-4 : tie.Need-slice-aggregate-answer-table-4
+slice-aggregate-answer-table-4 c =
+    sym (length-take-le _ _ (roots-within (held (at-table (c .before .before .before .before)))))
+
+answer-table-requires : tie.Need-answer-table-requires
+answer-table-requires c κs = search needs
+
+same-length : tie.Need-same-length
+same-length c = search needs
+
+returns : tie.Need-returns
+unfolding answerTo
+returns c =
+    let met = c .before .before .before .before .before in
+    refused-replied ours (reading (read-refused met)) (sym (read-refused met .read-sheet .ensures .0) ∙ met .refusal .given .1) (c .before .before .refuse .ensures)
+
+same-length-2 : tie.Need-same-length-2
+same-length-2 c = search needs
+
+returns-2 : tie.Need-returns-2
+unfolding answerTo
+returns-2 c =
+    table-replied (held (at-table (c .before .before .before .before .before .before .before))) ours (c .before .before .answer-table .ensures)
+
+pub answer-spec : {M : Type 1} → statement M
+answer-spec =
+    tie.close
+    (tie.spec
+    slice-aggregate-read-sheet
+    slice-aggregate-read-sheet-2
+    slice-aggregate-read-sheet-3
+    slice-aggregate-read-sheet-4
+    read-sheet-requires
+    enum-known-refusal
+    refuse-requires
+    enum-known-rows
+    array-share-prefix-kinds
+    slice-aggregate-answer-table
+    array-share-prefix-xs
+    slice-aggregate-answer-table-2
+    array-share-prefix-ys
+    slice-aggregate-answer-table-3
+    array-share-prefix-roots
+    slice-aggregate-answer-table-4
+    answer-table-requires
+    same-length
+    returns
+    same-length-2
+    returns-2)

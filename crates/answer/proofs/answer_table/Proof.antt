@@ -1,0 +1,61 @@
+-- `answer_table` meets its contract: what the judge says of the table picks the text.
+-- Assumes nothing.
+use mathlib.Core.Path.{_≡_, sym, _∙_}
+use denote.Ref.{now}
+use Rattle.numbers.specs.Sizes.{ours}
+use Rattle.recipe.specs.Tables.{Table, tableOf}
+use Rattle.answer.proofs.ReplyLaws.{judged-reply}
+use borrow.Author.Needs.{needs}
+use Rattle.answer.proofs.answer_table.Statement.{statement}
+use Rattle.answer.proofs.answer_table.Tie as tie
+
+-- The table that is answered, as it is when the judge has spoken.
+abbrev table : tie.After-judge → Table
+table c =
+    let a = c .before .before .before .before .before .before .args in tableOf (now (a .kinds)) (now (a .xs)) (now (a .ys)) (now (a .roots))
+
+judge-requires : tie.Need-judge-requires
+judge-requires c κs = search needs
+
+enum-known-refusal : tie.Need-enum-known-refusal
+enum-known-refusal c = search needs
+
+refuse-requires : tie.Need-refuse-requires
+refuse-requires c κs = search needs
+
+enum-told : tie.Need-enum-told
+enum-told c = search needs
+
+list-requires : tie.Need-list-requires
+list-requires c κs =
+    sym (c .before .before .before .judge .ensures) ∙ c .before .enum-told .given .1
+
+same-length : tie.Need-same-length
+same-length c = search needs
+
+returns : tie.Need-returns
+returns c =
+    let met = c .before .before .before .before .before in
+    judged-reply ours (table (met .before .before)) (sym (met .before .before .judge .ensures) ∙ met .refusal .given .1) (c .before .before .refuse .ensures)
+
+same-length-2 : tie.Need-same-length-2
+same-length-2 c = search needs
+
+returns-2 : tie.Need-returns-2
+returns-2 c =
+    let met = c .before .before .before .before in
+    judged-reply ours (table (met .before .before)) (sym (met .before .before .judge .ensures) ∙ met .enum-told .given .1) (c .before .before .list .ensures)
+
+pub answer-table-spec : {M : Type 1} → statement M
+answer-table-spec =
+    tie.close
+    (tie.spec
+    judge-requires
+    enum-known-refusal
+    refuse-requires
+    enum-told
+    list-requires
+    same-length
+    returns
+    same-length-2
+    returns-2)

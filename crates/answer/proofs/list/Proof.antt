@@ -1,0 +1,30 @@
+-- `list` meets its contract: the pairs of an admitted table are listed, and the matrix that is lent for it is whole.
+-- Assumes nothing.
+use native.Mathlib.Nat.{le-refl}
+use denote.Ref.{now}
+use Rattle.numbers.specs.Sizes.{ours, matrixWords}
+use Rattle.recipe.specs.Tables.{tableOf}
+use Rattle.answer.proofs.ReplyLaws.{listing-replied}
+use borrow.Author.Needs.{needs}
+use Rattle.answer.proofs.list.Statement.{statement}
+use Rattle.answer.proofs.list.Tie as tie
+
+slice-aggregate-list-pairs : tie.Need-slice-aggregate-list-pairs
+slice-aggregate-list-pairs c = search needs
+
+list-pairs-requires : tie.Need-list-pairs-requires
+list-pairs-requires c κs = search needs
+
+same-length : tie.Need-same-length
+same-length c = search needs
+
+returns : tie.Need-returns
+returns c =
+    let s = c .before .before .before .before .before .before .before .before .before .before .before in
+    let a = s .args in
+    let t = tableOf (now (a .kinds)) (now (a .xs)) (now (a .ys)) (now (a .roots)) in
+    let given = c .before .before .before .list-pairs .ensures in
+    listing-replied ours t (matrixWords (ours .words)) (s .pre) (le-refl (matrixWords (ours .words))) (now (a .bytes)) (given .0) (given .1 .1)
+
+pub list-spec : {M : Type 1} → statement M
+list-spec = tie.close (tie.spec slice-aggregate-list-pairs list-pairs-requires same-length returns)
