@@ -1,8 +1,9 @@
 -- A row's summary, kind by kind: the children's pairs are marked one after the other, which is marking the row's own all at once.
 -- Assumes nothing.
 use mathlib.Core.Path.{_≡_, refl, sym, ap, ap₂, _∙_}
+use mathlib.Core.Logic.{_⊎_, inl, inr, ⊎-elim}
 use mathlib.Core.List.{List}
-use Prim.Native.Nat.{ℕ, _<_}
+use Prim.Native.Nat.{ℕ, zero, suc, _<_}
 use native.Mathlib.Omega.{arith}
 use lib.ListN.{length, getD}
 use Rattle.numbers.specs.Sizes.{Size, matrixWords}
@@ -12,7 +13,7 @@ use Rattle.matrix.specs.Matrix.{merged, crossed, cleared}
 use Rattle.calculus.specs.Syntax.{Stmt, skip, step, seq, loop, async, finish, call}
 use Rattle.recipe.specs.Inner.{rowsAlone, OfAdmitted}
 use Rattle.recipe.specs.Statements.{statementAt}
-use Rattle.recipe.proofs.AloneLaws.{calls-below, first-smaller, second-smaller, loop-smaller}
+use Rattle.recipe.proofs.AloneLaws.{calls-below, first-smaller, second-smaller, loop-smaller, async-smaller, finish-smaller}
 use Rattle.recipe.proofs.AloneLaws.{alone-skip, alone-step, alone-seq, alone-loop, alone-async, alone-finish, alone-call}
 use Rattle.analysis.specs.Summaries.{WordSummary, followedWords, loopedWords, spawnedWords, waitedWords, wordsOf}
 use Rattle.analysis.specs.Inner.{Ready, markedInto, stateWords, heldFor, rowWords}
@@ -36,6 +37,23 @@ pub shaped-row :
 shaped-row {z} {kinds} {xs} {ys} {held} table state i h =
     shaped-called (z .words) (heldFor (z .words) held) (statementAt (rowsAlone kinds xs ys) i)
     (λ f c. shaped-held z state f (calls-below table i h f c))
+
+-- The kinds with one child: a loop, a side branch, a wait.
+abbrev pub Around : ℕ → Type 0
+Around k = (k ≡ 3) ⊎ ((k ≡ 4) ⊎ (k ≡ 5))
+
+pub one-child : (k : ℕ) → (k ≡ 0 → ⊥) → (k ≡ 1 → ⊥) → (k ≡ 2 → ⊥) → k < 6 → Around k
+one-child zero a b c h = absurd (a refl)
+one-child (suc zero) a b c h = absurd (b refl)
+one-child (suc (suc zero)) a b c h = absurd (c refl)
+one-child (suc (suc (suc zero))) a b c h = inl refl
+one-child (suc (suc (suc (suc zero)))) a b c h = inr (inl refl)
+one-child (suc (suc (suc (suc (suc zero))))) a b c h = inr (inr refl)
+one-child (suc (suc (suc (suc (suc (suc k)))))) a b c h = absurd (omega arith)
+
+pub child-smaller :
+    {z : Size} {kinds xs ys : List ℕ} → OfAdmitted z kinds xs ys → (row : ℕ) → row < length kinds → Around (getD kinds row 0) → getD xs row 0 < row
+child-smaller t row h = ⊎-elim (loop-smaller t row h) (⊎-elim (async-smaller t row h) (finish-smaller t row h))
 
 -- What working out a row asks, and that the lent matrix and the state are words.
 pub record Standing (z : Size) (pairs kinds xs ys held : List ℕ) (row : ℕ) : Type 0 where
@@ -122,14 +140,20 @@ module _ {z : Size} {pairs kinds xs ys held : List ℕ} {row : ℕ} (a : Standin
           (ap₂ (union w) (ap O p) (ap O q))
           (ap₂ (union w) (ap L p) (ap L q)))
 
-      pub loop-row : getD kinds row 0 ≡ 3 → s ≡ loopedWords w u → s ≡ markedInto w pairs (of row)
+      loop-row : getD kinds row 0 ≡ 3 → s ≡ loopedWords w u → s ≡ markedInto w pairs (of row)
       loop-row k e =
           let X = shaped-child x (loop-smaller table row there k) in
           by-statement (loop (at x)) (alone-loop table row there k)
           (e ∙ ap (loopedWords w) p ∙ by-parts (crossed-into w (X .O) (X .L) whole (X .M)) refl refl)
 
-      pub async-row : getD kinds row 0 ≡ 4 → s ≡ spawnedWords u → s ≡ markedInto w pairs (of row)
+      async-row : getD kinds row 0 ≡ 4 → s ≡ spawnedWords u → s ≡ markedInto w pairs (of row)
       async-row k e = by-statement (async (at x)) (alone-async table row there k) (e ∙ ap spawnedWords p)
 
-      pub finish-row : getD kinds row 0 ≡ 5 → s ≡ waitedWords w u → s ≡ markedInto w pairs (of row)
+      finish-row : getD kinds row 0 ≡ 5 → s ≡ waitedWords w u → s ≡ markedInto w pairs (of row)
       finish-row k e = by-statement (finish (at x)) (alone-finish table row there k) (e ∙ ap (waitedWords w) p)
+
+      pub around-row :
+          Around (getD kinds row 0) → (getD kinds row 0 ≡ 3 → s ≡ loopedWords w u) → (getD kinds row 0 ≡ 4 → s ≡ spawnedWords u)
+          → (getD kinds row 0 ≡ 5 → s ≡ waitedWords w u) → s ≡ markedInto w pairs (of row)
+      around-row k loops spawns waits =
+          ⊎-elim (λ e. loop-row e (loops e)) (⊎-elim (λ e. async-row e (spawns e)) (λ e. finish-row e (waits e))) k

@@ -3,7 +3,7 @@ ghost use mathlib.Core.Path.{_≡_};
 ghost use Prim.Native.Nat.{_<_};
 ghost use lib.ListN.{length};
 ghost use Rattle.numbers.specs.Sizes.{ours};
-ghost use Rattle.analysis.specs.Summaries.{followedWords, loopedWords};
+ghost use Rattle.analysis.specs.Summaries.{followedWords, loopedWords, spawnedWords, waitedWords};
 ghost use Rattle.analysis.specs.Inner.{summaryWords, markedInto, stateWords, heldFor, rowWords, Ready};
 use crate::state::BLOCK_WORDS;
 use crate::summary::LabelSummary;
@@ -27,6 +27,22 @@ fn repetition(pairs: &mut [u64], body: LabelSummary) -> LabelSummary
 {
     matrix::cross(pairs, body.o, body.l);
     body.looped()
+}
+
+// A row with one child whose pairs are marked: a loop, a side branch or a wait.
+fn around(pairs: &mut [u64], kind: u8, body: LabelSummary) -> LabelSummary
+    ensures loops { λ r. let x = summaryWords body (now (pairs .entry)) in
+        ⌜ (kind ≡ 3 → summaryWords r (now (pairs .exit)) ≡ loopedWords (ours .words) x) ⌝ }
+    ensures spawns { λ r. let x = summaryWords body (now (pairs .entry)) in
+        ⌜ (kind ≡ 4 → summaryWords r (now (pairs .exit)) ≡ spawnedWords x) ⌝ }
+    ensures waits { λ r. let x = summaryWords body (now (pairs .entry)) in
+        ⌜ (kind ≡ 5 → summaryWords r (now (pairs .exit)) ≡ waitedWords (ours .words) x) ⌝ }
+{
+    match kind {
+        3 => repetition(pairs, body),
+        4 => body.spawned(),
+        _ => body.waited(),
+    }
 }
 
 // A call: the summary held for the procedure.
@@ -70,12 +86,10 @@ pub(crate) fn row_summary(
             let second = row_summary(pairs, kinds, xs, ys, held, RowNumber(y));
             sequence(pairs, first, second)
         }
-        3 => {
+        3..=5 => {
             let body = row_summary(pairs, kinds, xs, ys, held, RowNumber(x));
-            repetition(pairs, body)
+            around(pairs, kind, body)
         }
-        4 => row_summary(pairs, kinds, xs, ys, held, RowNumber(x)).spawned(),
-        5 => row_summary(pairs, kinds, xs, ys, held, RowNumber(x)).waited(),
         6 => called(pairs, held, ProcNumber(x)),
         7..=255 => LabelSummary::empty(),
     }

@@ -1,7 +1,6 @@
 -- `row_summary` meets its contract: at each kind the children's summaries give the row's (RowCases), and the row number falls at each call.
 -- Assumes nothing.
-use mathlib.Core.Path.{refl, ap, _∙_}
-use mathlib.Core.List.{List, [], _∷_}
+use mathlib.Core.Path.{refl}
 use Prim.Native.Nat.{ℕ, _<_}
 use native.Mathlib.Omega.{arith}
 use borrow.Author.Needs.{needs}
@@ -10,26 +9,18 @@ use borrow.Fn.PlainCycle.{Measures, is, falls, and}
 use denote.Ref.{now}
 use lib.ListN.{getD}
 use Rattle.numbers.specs.Sizes.{ours}
-use Rattle.recipe.proofs.AloneLaws.{first-smaller, second-smaller, loop-smaller, async-smaller, finish-smaller}
-use Rattle.recipe.proofs.AloneLaws.{no-other, call-there, label-fits, xs-there, ys-there}
-use Rattle.analysis.specs.Inner.{summaryWords}
-use Rattle.analysis.proofs.Shape.{by-parts}
-use Rattle.analysis.proofs.RowCases.{Standing, ready-for, skip-row, step-row, seq-row, loop-row, async-row, finish-row, call-row}
+use Rattle.recipe.proofs.AloneLaws.{first-smaller, second-smaller, no-other, call-there, label-fits, xs-there, ys-there}
+use Rattle.analysis.proofs.RowCases.{Standing, Around, one-child, child-smaller, ready-for, skip-row, step-row, seq-row, call-row, around-row}
 use Rattle.analysis.proofs.rows.row_summary.Reads as row-summary
 use Rattle.analysis.proofs.rows.row_summary.Kinds as kinds
 use Rattle.analysis.proofs.rows.+row_summary.Lts-row_summary as lts
+use Rattle.analysis.proofs.rows.around.Reads as around
 use Rattle.analysis.proofs.rows.called.Reads as called
-use Rattle.analysis.proofs.rows.repetition.Reads as repetition
 use Rattle.analysis.proofs.rows.sequence.Reads as sequence
 use Rattle.analysis.proofs.summary.LabelSummary.empty.Reads as empty
-use Rattle.analysis.proofs.summary.LabelSummary.spawned.Reads as spawned
 use Rattle.analysis.proofs.summary.LabelSummary.step.Reads as step
-use Rattle.analysis.proofs.summary.LabelSummary.waited.Reads as waited
 use Rattle.analysis.proofs.rows.+row_summary.{statement}
 use Rattle.analysis.proofs.rows.+row_summary.Tie.{close}
-
-abbrev one-word : ℕ → List ℕ
-one-word n = n ∷ []
 
 abbrev μ : Measures 5 kinds.ps ℕ
 μ κs a = a .1 .1 .1 .1 .1 .0 .0
@@ -53,14 +44,10 @@ module _ (t : ℕ) where
     row-summary.Post,
     sequence.Asked,
     sequence.Learnt,
-    repetition.Asked,
-    repetition.Learnt,
-    spawned.Asked,
-    spawned.Learnt,
-    waited.Asked,
-    waited.Learnt,
     called.Asked,
     called.Learnt,
+    around.Asked,
+    around.Learnt,
   )
 
   -- The places: the entry, and where the kind, x and y have been read.
@@ -102,6 +89,12 @@ module _ (t : ℕ) where
         words-pairs = λ k. known .before .before .before .before .slice-known .given k .fits;
         words-held = λ k. known .shared-slice-known4 .given k .fits;
       }
+
+  -- In the last arm but one the kind has one child.
+  kind-around :
+      (c : lts.Then1 callees pre row-summary.Post)
+      → let a = entry (c .before .before) .args in Around (getD (now (a .kinds)) (a .row .0) 0)
+  kind-around c = let n = c .before .match .rest in one-child _ (n .0 .0 .0 .1) (n .0 .0 .1) (n .0 .1) (c .if1 .taken)
 
   cast-i : lts.Need-cast-i callees pre row-summary.Post
   cast-i c = search needs
@@ -150,40 +143,20 @@ module _ (t : ℕ) where
   sequence-requires : lts.Need-sequence-requires callees pre row-summary.Post
   sequence-requires c κs = search needs
 
-  loop-requires : lts.Need-row-summary-requires-3 callees pre row-summary.Post
-  loop-requires c κs =
-      let e = entry (c .before .before) in
-      let r = e .pre .1 in
-      let l = loop-smaller (r .table) _ (r .there) (c .before .match .keys4) in
-      (omega (arith, l, e .pre .0), ready-for r _ (omega (arith, l, r .there)) refl)
-
-  repetition-requires : lts.Need-repetition-requires callees pre row-summary.Post
-  repetition-requires c κs = search needs
-
-  async-requires : lts.Need-row-summary-requires-4 callees pre row-summary.Post
-  async-requires c κs =
-      let e = entry (c .before .before) in
-      let r = e .pre .1 in
-      let l = async-smaller (r .table) _ (r .there) (c .before .match .keys5) in
-      (omega (arith, l, e .pre .0), ready-for r _ (omega (arith, l, r .there)) refl)
-
-  spawned-requires : lts.Need-spawned-requires callees pre row-summary.Post
-  spawned-requires c κs = search needs
-
-  finish-requires : lts.Need-row-summary-requires-5 callees pre row-summary.Post
-  finish-requires c κs =
-      let e = entry (c .before .before) in
-      let r = e .pre .1 in
-      let l = finish-smaller (r .table) _ (r .there) (c .before .match .keys6) in
-      (omega (arith, l, e .pre .0), ready-for r _ (omega (arith, l, r .there)) refl)
-
-  waited-requires : lts.Need-waited-requires callees pre row-summary.Post
-  waited-requires c κs = search needs
-
   called-requires : lts.Need-called-requires callees pre row-summary.Post
   called-requires c κs =
       let r = entry (c .before .before) .pre .1 in
-      (call-there (r .table) _ (r .there) (c .before .match .keys7), r .state)
+      (call-there (r .table) _ (r .there) (c .before .match .keys4), r .state)
+
+  child-requires : lts.Need-row-summary-requires-3 callees pre row-summary.Post
+  child-requires c κs =
+      let e = entry (c .before .before .before) in
+      let r = e .pre .1 in
+      let l = child-smaller (r .table) _ (r .there) (kind-around (c .before)) in
+      (omega (arith, l, e .pre .0), ready-for r _ (omega (arith, l, r .there)) refl)
+
+  around-requires : lts.Need-around-requires callees pre row-summary.Post
+  around-requires c κs = search needs
 
   empty-requires-2 : lts.Need-empty-requires-2 callees pre row-summary.Post
   empty-requires-2 c κs = search needs
@@ -207,46 +180,31 @@ module _ (t : ℕ) where
       seq-row (standing (before-first first)) (first .row-summary .ensures) (first .before .before .match .keys3) (second .row-summary2 .ensures)
       (both .sequence .ensures)
 
-  loop-length : lts.Need-same-length-2 callees pre row-summary.Post
-  loop-length c = search needs
-
-  loop-returns : lts.Need-returns-4 callees pre row-summary.Post
-  loop-returns c =
-      let turn = c .before .before in
-      let child = turn .before .before .before .before in
-      loop-row (standing (child .before .before .before)) (child .row-summary3 .ensures) (child .before .before .match .keys4) (turn .repetition .ensures)
-
-  async-length : lts.Need-same-length-3 callees pre row-summary.Post
-  async-length c = search needs
-
-  async-returns : lts.Need-returns-5 callees pre row-summary.Post
-  async-returns c =
-      let child = c .before .before .before in
-      async-row (standing (child .before .before .before)) (child .row-summary4 .ensures) (child .before .before .match .keys5)
-      (by-parts refl (ap one-word (c .spawned .ensures .0)) (ap one-word (c .spawned .ensures .1)))
-
-  finish-length : lts.Need-same-length-4 callees pre row-summary.Post
-  finish-length c = search needs
-
-  finish-returns : lts.Need-returns-6 callees pre row-summary.Post
-  finish-returns c =
-      let child = c .before .before .before in
-      finish-row (standing (child .before .before .before)) (child .row-summary5 .ensures) (child .before .before .match .keys6)
-      (by-parts refl (c .waited .ensures .0) (ap one-word (c .waited .ensures .1)))
-
-  call-length : lts.Need-same-length-5 callees pre row-summary.Post
+  call-length : lts.Need-same-length-2 callees pre row-summary.Post
   call-length c = search needs
 
-  call-returns : lts.Need-returns-7 callees pre row-summary.Post
+  call-returns : lts.Need-returns-4 callees pre row-summary.Post
   call-returns c =
       let there = c .before .before in
-      call-row (standing (there .before .before .before)) (there .before .before .match .keys7) (there .called .ensures)
+      call-row (standing (there .before .before .before)) (there .before .before .match .keys4) (there .called .ensures)
 
-  other-returns : lts.Need-returns-8 callees pre row-summary.Post
+  around-length : lts.Need-same-length-3 callees pre row-summary.Post
+  around-length c = search needs
+
+  around-returns : lts.Need-returns-5 callees pre row-summary.Post
+  around-returns c =
+      let row = c .before .before in
+      let child = row .before .before .before .before in
+      let arm = child .before .before in
+      let e = row .around .ensures in
+      around-row (standing (arm .before .before)) (child .row-summary3 .ensures) (kind-around arm) (e .0) (e .1 .0) (e .1 .1)
+
+  other-returns : lts.Need-returns-6 callees pre row-summary.Post
   other-returns c =
-      let r = entry (c .before .before) .pre .1 in
-      let n = c .before .match .rest in
-      no-other (r .table) _ (r .there) (n .0 .0 .0 .0 .0 .0 .1) (n .0 .0 .0 .0 .0 .1) (n .0 .0 .0 .0 .1) (n .0 .0 .0 .1) (n .0 .0 .1) (n .0 .1) (n .1)
+      let r = entry (c .before .before .before) .pre .1 in
+      let n = c .before .before .match .rest in
+      let h = c .before .if1 .left in
+      no-other (r .table) _ (r .there) (n .0 .0 .0 .1) (n .0 .0 .1) (n .0 .1) (λ e. omega arith) (λ e. omega arith) (λ e. omega arith) (n .1)
 
 pub +row-summary-spec : {M : Type 1} → statement M
 +row-summary-spec = close μ λ t. lts.spec (callees t)
@@ -264,24 +222,16 @@ pub +row-summary-spec : {M : Type 1} → statement M
     (first-requires t)
     (second-requires t)
     (sequence-requires t)
-    (loop-requires t)
-    (repetition-requires t)
-    (async-requires t)
-    (spawned-requires t)
-    (finish-requires t)
-    (waited-requires t)
     (called-requires t)
+    (child-requires t)
+    (around-requires t)
     (empty-requires-2 t)
     (skip-returns t)
     (step-returns t)
     (seq-length t)
     (seq-returns t)
-    (loop-length t)
-    (loop-returns t)
-    (async-length t)
-    (async-returns t)
-    (finish-length t)
-    (finish-returns t)
     (call-length t)
     (call-returns t)
+    (around-length t)
+    (around-returns t)
     (other-returns t)
