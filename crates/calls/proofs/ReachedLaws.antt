@@ -12,7 +12,7 @@ use borrow.Author.Tests.{eqb-true, eq-eqb, not-true, not-false}
 use Rattle.calculus.specs.Syntax.{Stmt, skip, step, seq, loop, async, finish, call, Program, body}
 use Rattle.calculus.specs.Calls.{CallsIn, Calls, Reaches, one, more, NoSelfCall}
 use Rattle.numbers.specs.General.{every}
-use Rattle.numbers.proofs.EveryLaws.{every-passes}
+use Rattle.numbers.proofs.EveryLaws.{some-fails, every-passes}
 use Rattle.calls.specs.Reached.{calling, reached, reachesItself, wide}
 
 either-true : (a b : Bool) → (a || b) ≡ true → (a ≡ true) ⊎ (b ≡ true)
@@ -24,16 +24,6 @@ first-true a b e = rw e
 
 second-true : (a b : Bool) → b ≡ true → (a || b) ≡ true
 second-true a b e = rw e (or-true a)
-
--- a test that does not pass everywhere fails somewhere
-some-fails : (test : ℕ → Bool) (n : ℕ) → every n test ≡ false → (f : ℕ) × (test f ≡ false)
-unfolding every
-some-fails test zero e = absurd (true≢false e)
-some-fails test (suc n) e = go (every n test) (some-fails test n) e
-  where
-    go : (a : Bool) → (a ≡ false → (f : ℕ) × (test f ≡ false)) → (a && test n) ≡ false → (f : ℕ) × (test f ≡ false)
-    go true before e = (n, e)
-    go false before e = before refl
 
 pub calling-calls : (s : Stmt) (g : ℕ) → calling s g ≡ true → CallsIn s g
 unfolding calling

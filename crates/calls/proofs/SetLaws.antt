@@ -10,6 +10,7 @@ use native.Mathlib.Omega.{arith}
 use lib.Bits.{bitOr}
 use lib.Dec.{eqb}
 use lib.ListN.{length, getD}
+use Rattle.numbers.proofs.EveryLaws.{every-alike}
 use Rattle.calculus.specs.Syntax.{Stmt, skip, step, seq, loop, async, finish, call, Program, body}
 use Rattle.labels.specs.Words.{bit}
 use Rattle.labels.proofs.BitLaws.{bit-lt, bit-of-zero, bit-or, bit-times, bit-of-power}
@@ -33,12 +34,6 @@ min-and false false = refl
 none-is-not : (b : Bool) → eqb (oneIf b) 0 ≡ not b
 none-is-not true = refl
 none-is-not false = refl
-
-every-alike : (n : ℕ) (test other : ℕ → Bool) → ((k : ℕ) → k < n → test k ≡ other k) → every n test ≡ every n other
-unfolding every
-every-alike zero test other e = refl
-every-alike (suc n) test other e =
-    ap₂ _&&_ (every-alike n test other (λ k h. e k (omega arith))) (e n (le-refl (suc n)))
 
 -- one procedure more
 pub closed-more : (n k : ℕ) (sets : List ℕ) → throughAlso n k (closedBelow n k sets) ≡ closedBelow n (k + 1) sets

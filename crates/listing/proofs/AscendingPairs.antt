@@ -13,36 +13,13 @@ use borrow.Author.Tests.{leb-true, eqb-true, le-leb, eq-eqb}
 use lib.Dec.{eqb, leb}
 use Rattle.numbers.specs.General.{inTurn}
 use Rattle.numbers.specs.Sizes.{labelCeiling}
+use Rattle.numbers.proofs.InTurnLaws.{in-one-of, in-turn}
 use Rattle.labels.specs.Sets.{member}
-use Rattle.matrix.specs.Matrix.{partners, marked}
-use Rattle.listing.specs.Pairs.{Pair, pairAt, pairsOf, pairs}
+use Rattle.matrix.specs.Matrix.{Pair, partners, marked}
+use Rattle.listing.specs.Pairs.{pairAt, pairsOf, pairs}
 use Rattle.listing.specs.Order.{Before, Ascending}
 
 -- ---- lists in turn
-
-pub record InOneOf (n : ℕ) (f : ℕ → List Pair) (p : Pair) : Type 0 where
-  pub place : ℕ
-  pub below : place < n
-  pub there : List·Memᴰ p (f place)
-
-in-one-of : (n : ℕ) (f : ℕ → List Pair) (p : Pair) → List·Memᴰ p (inTurn n f) → InOneOf n f p
-unfolding inTurn
-in-one-of zero f p h = absurd (List·Memᴰ·not-nil h)
-in-one-of (suc n) f p h =
-    ⊎-elim
-    (λ earlier. let e = in-one-of n f p earlier in record { place = e .place; below = omega (arith, e .below); there = e .there })
-    (λ last. record { place = n; below = le-refl (suc n); there = last })
-    (List·Memᴰ·append-cases (inTurn n f) h)
-
-in-turn : (n : ℕ) (f : ℕ → List Pair) (p : Pair) (k : ℕ) → k < n → List·Memᴰ p (f k) → List·Memᴰ p (inTurn n f)
-unfolding inTurn
-in-turn zero f p k h there = absurd (not-suc-le-zero h)
-in-turn (suc n) f p k h there = by-order (decLt k n) (in-turn n f p k)
-  where
-    by-order : Dec (k < n) → (k < n → List·Memᴰ p (f k) → List·Memᴰ p (inTurn n f)) → List·Memᴰ p (inTurn n f ++ f n)
-    by-order (yes l) earlier = Memᴰ·append-left (f n) (earlier l there)
-    by-order (no l) earlier =
-        let last : k ≡ n = omega arith in Memᴰ·append-right (inTurn n f) (subst (λ (x : ℕ). List·Memᴰ p (f x)) last there)
 
 ascending-joined :
     (a b : List Pair) → Ascending a → Ascending b → ((p q : Pair) → List·Memᴰ p a → List·Memᴰ q b → Before p q) → Ascending (a ++ b)
@@ -59,7 +36,7 @@ unfolding inTurn
 ascending-in-turn zero f each across = tt
 ascending-in-turn (suc n) f each across =
     ascending-joined (inTurn n f) (f n) (ascending-in-turn n f (λ k h. each k (omega arith)) across) (each n (le-refl (suc n)))
-    (λ p q l r. let e = in-one-of n f p l in across (e .place) n p q (e .below) (e .there) r)
+    (λ p q l r. let e = in-one-of f n p l in across (e .place) n p q (e .below) (e .there) r)
 
 -- ---- the pairs of a label, and of all labels
 
@@ -103,7 +80,7 @@ ascending-pairs-of w s i =
 
 first-label : (w : ℕ) (s : List ℕ) (i : ℕ) (p : Pair) → List·Memᴰ p (pairsOf w s i) → p .0 ≡ i
 first-label w s i p h =
-    let e = in-one-of (labelCeiling w) (pairAt s i) p h in ap (λ (z : Pair). z .0) (pair-of s i (e .place) p (e .there) .is)
+    let e = in-one-of (pairAt s i) (labelCeiling w) p h in ap (λ (z : Pair). z .0) (pair-of s i (e .place) p (e .there) .is)
 
 pub pairs-ascending : (w : ℕ) (m : List ℕ) → Ascending (pairs w m)
 pairs-ascending w m =
@@ -119,13 +96,13 @@ pub record MarkedPair (w : ℕ) (m : List ℕ) (p : Pair) : Type 0 where
 pub listed-is-marked : (w : ℕ) (m : List ℕ) (p : Pair) → List·Memᴰ p (pairs w m) → MarkedPair w m p
 unfolding marked
 listed-is-marked w m p h =
-    let e = in-one-of (labelCeiling w) (λ i. pairsOf w (partners w m i) i) p h in
-    let f = in-one-of (labelCeiling w) (pairAt (partners w m (e .place)) (e .place)) p (e .there) in
+    let e = in-one-of (λ i. pairsOf w (partners w m i) i) (labelCeiling w) p h in
+    let f = in-one-of (pairAt (partners w m (e .place)) (e .place)) (labelCeiling w) p (e .there) in
     let g = pair-of (partners w m (e .place)) (e .place) (f .place) p (f .there) in
     subst (λ (q : Pair). MarkedPair w m q) (sym (g .is)) (record { low = g .low; label = f .below; mark = g .partner })
 
 pub marked-is-listed : (w : ℕ) (m : List ℕ) (i j : ℕ) → i ≤ j → j < labelCeiling w → marked w m i j ≡ 1 → List·Memᴰ (i, j) (pairs w m)
 unfolding marked
 marked-is-listed w m i j h l e =
-    in-turn (labelCeiling w) (λ i. pairsOf w (partners w m i) i) (i, j) i (omega arith)
-    (in-turn (labelCeiling w) (pairAt (partners w m i) i) (i, j) j l (of-pair (partners w m i) i j h e))
+    in-turn (λ i. pairsOf w (partners w m i) i) (labelCeiling w) (i, j) i (omega arith)
+    (in-turn (pairAt (partners w m i) i) (labelCeiling w) (i, j) j l (of-pair (partners w m i) i j h e))

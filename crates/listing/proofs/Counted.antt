@@ -11,17 +11,12 @@ use lib.ListN.{length, length-append}
 use Rattle.numbers.specs.General.{oneIf, sumBelow, inTurn}
 use Rattle.numbers.specs.Sizes.{ours, labelCeiling}
 use Rattle.labels.specs.Sets.{member}
-use Rattle.matrix.specs.Matrix.{partners, marked, pairsAtOrAbove}
+use Rattle.matrix.specs.Matrix.{Pair, partners, marked, pairsAtOrAbove}
 use Rattle.labels.proofs.SetLaws.{member-lt}
 use Rattle.matrix.proofs.MatrixLaws.{marked-lt}
+use Rattle.numbers.proofs.InTurnLaws.{length-in-turn}
 use Rattle.numbers.proofs.SumLaws.{sum-alike}
-use Rattle.listing.specs.Pairs.{Pair, pairAt, pairs}
-
-length-in-turn : (n : ℕ) (f : ℕ → List Pair) → length (inTurn n f) ≡ sumBelow n (λ k. length (f k))
-unfolding inTurn sumBelow
-length-in-turn zero f = refl
-length-in-turn (suc n) f =
-    length-append (inTurn n f) (f n) ∙ ap (λ (x : ℕ). x + length (f n)) (length-in-turn n f)
+use Rattle.listing.specs.Pairs.{pairAt, pairs}
 
 one-or-none : (p : Pair) (t : Bool) (x : ℕ) → x < 2 → length (cond {A = List Pair} (t && eqb x 1) (p ∷ []) []) ≡ oneIf t * x
 one-or-none p true zero h = refl
@@ -33,9 +28,9 @@ pub count-is-lines : (w : ℕ) (m : List ℕ) → pairsAtOrAbove w m ≡ length 
 unfolding pairsAtOrAbove marked pairAt
 count-is-lines w m =
     sym
-    (length-in-turn (labelCeiling w) (λ i. inTurn (labelCeiling w) (pairAt (partners w m i) i))
+    (length-in-turn (λ i. inTurn (labelCeiling w) (pairAt (partners w m i) i)) (labelCeiling w)
     ∙ sum-alike (labelCeiling w) _ _
-    (λ i h. length-in-turn (labelCeiling w) (pairAt (partners w m i) i)
+    (λ i h. length-in-turn (pairAt (partners w m i) i) (labelCeiling w)
     ∙ sum-alike (labelCeiling w) _ _ (λ j l. one-or-none (i, j) (leb i j) (member (partners w m i) j) (member-lt (partners w m i) j))))
 
 pub sum-monotone : (n : ℕ) (f g : ℕ → ℕ) → ((k : ℕ) → k < n → f k ≤ g k) → sumBelow n f ≤ sumBelow n g

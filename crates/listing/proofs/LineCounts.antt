@@ -10,14 +10,14 @@ use borrow.Author.Tests.{eqb-true}
 use lib.Dec.{eqb}
 use lib.ListN.{length}
 use Rattle.numbers.specs.General.{oneIf}
-use Rattle.matrix.specs.Matrix.{pairsAtOrAbove}
+use Rattle.matrix.specs.Matrix.{Pair, pairsAtOrAbove}
 use Rattle.text.specs.Bytes.{ascii, tab, newline, isDigit}
 use Rattle.text.specs.Numbers.{spelled}
 use Rattle.text.proofs.DigitLaws.{newline-no-digit}
 use Rattle.text.proofs.SpelledLaws.{spelled-digits}
 use Rattle.text.specs.Lines.{line}
 use Rattle.text.proofs.LineLaws.{ended, first-field}
-use Rattle.listing.specs.Pairs.{Pair, pairs}
+use Rattle.listing.specs.Pairs.{pairs}
 use Rattle.listing.specs.Order.{lineCount}
 use Rattle.listing.specs.Listing.{verdictText, opening, pairLine, lines, listing}
 use Rattle.listing.proofs.Counted.{count-is-lines}

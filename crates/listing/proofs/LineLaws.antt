@@ -10,7 +10,7 @@ use lib.ListN.{length}
 use Rattle.text.specs.Bytes.{ascii, newline}
 use Rattle.text.specs.Numbers.{spelled}
 use Rattle.text.proofs.LineLaws.{length-ended, length-first}
-use Rattle.listing.specs.Pairs.{Pair}
+use Rattle.matrix.specs.Matrix.{Pair}
 use Rattle.listing.specs.Listing.{verdictText, opening, pairLine, lines}
 
 pub length-pair-line : (i j : ℕ) → length (pairLine i j) ≡ length (spelled i) + length (spelled j) + 2

@@ -14,8 +14,9 @@ use lib.Seq.{drop-cons}
 use Rattle.numbers.specs.General.{inTurn, sumBelow}
 use Rattle.numbers.specs.Sizes.{ours}
 use Rattle.labels.specs.Sets.{member}
-use Rattle.matrix.specs.Matrix.{partners}
-use Rattle.listing.specs.Pairs.{Pair, pairAt, pairsOf}
+use Rattle.matrix.specs.Matrix.{Pair, partners}
+use Rattle.numbers.proofs.InTurnLaws.{none-in-turn}
+use Rattle.listing.specs.Pairs.{pairAt, pairsOf}
 use Rattle.listing.specs.Listing.{pairLine, lines}
 use Rattle.text.specs.Putting.{Put}
 use Rattle.text.proofs.PutLaws.{put-nothing, put-behind, put-keeps}
@@ -39,11 +40,6 @@ pub no-pair-below : (s : List ℕ) (i j : ℕ) → j < i → pairAt s i j ≡ []
 no-pair-below s i j h = pair-by-tests s i j false (eqb (member s j) 1) (lt-leb i j h) refl
 
 -- ---- lists of pairs in turn
-
-pub none-in-turn : (n : ℕ) (f : ℕ → List Pair) → ((k : ℕ) → k < n → f k ≡ []) → inTurn n f ≡ []
-unfolding inTurn
-none-in-turn zero f e = refl
-none-in-turn (suc n) f e = ap₂ _++_ (none-in-turn n f (λ k h. e k (omega arith))) (e n (le-refl (suc n)))
 
 module _ (f : ℕ → List Pair) where
   abbrev pub linesBelow : ℕ → List ℕ
@@ -77,7 +73,7 @@ module _ {n : ℕ} {f : ℕ → List Pair} {old : List ℕ} {at : ℕ} where
   begins k h e =
       record {
         passed = h;
-        put = rw (none-in-turn k f e) (put-nothing old at);
+        put = rw (none-in-turn f k e) (put-nothing old at);
       }
 
   pub goes-on :
@@ -101,7 +97,7 @@ pub record Summing (n : ℕ) (f : ℕ → List Pair) (sum k : ℕ) : Type 0 wher
 module _ {n : ℕ} {f : ℕ → List Pair} where
   pub sum-begins : (k : ℕ) → k ≤ n → ((j : ℕ) → j < k → f j ≡ []) → Summing n f 0 k
   unfolding lines
-  sum-begins k h e = record { passed = h; total = ap (λ (x : List Pair). length (lines x)) (sym (none-in-turn k f e)) }
+  sum-begins k h e = record { passed = h; total = ap (λ (x : List Pair). length (lines x)) (sym (none-in-turn f k e)) }
 
   pub sum-goes-on :
       {sum k b : ℕ} → Summing n f sum k → k < n → b ≡ length (lines (f k)) → Summing n f (sum + b) (k + 1)

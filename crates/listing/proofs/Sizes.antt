@@ -16,7 +16,7 @@ use Rattle.numbers.specs.declared.Refusal.{Refusal}
 use Rattle.numbers.specs.declared.Refusal.the-variants.{LongListing}
 use Rattle.numbers.proofs.LowestLaws.{lowest-within}
 use Rattle.labels.specs.Sets.{member}
-use Rattle.matrix.specs.Matrix.{partners, pairsAtOrAbove}
+use Rattle.matrix.specs.Matrix.{Pair, partners, pairsAtOrAbove}
 use Rattle.text.specs.Numbers.{spelled}
 use Rattle.text.proofs.SpelledLaws.{spelled-alone, spelled-short, spelled-four}
 use Rattle.recipe.specs.Rules.{admitted, judgedWith}
@@ -30,7 +30,7 @@ use Rattle.recipe.proofs.WithMatrix.{admitted-with}
 use Rattle.calls.specs.Reached.{wide}
 use Rattle.analysis.specs.Rounds.{settled}
 use Rattle.analysis.specs.Replies.{rounds, mainPairs, matrixAfter}
-use Rattle.listing.specs.Pairs.{Pair, pairAt, pairs}
+use Rattle.listing.specs.Pairs.{pairAt, pairs}
 use Rattle.listing.specs.Listing.{opening, pairLine, lines, listing, longestListing}
 use Rattle.listing.specs.Replies.{listingOf, fitted, listedAs, heldAfter, listed, matrixListed, bytesListed}
 use Rattle.listing.specs.declared.Listed.the-variants as reply

@@ -2,11 +2,11 @@
 use mathlib.Core.Bool.{Bool, cond}
 use mathlib.Core.List.{List, [], _∷_, _++_}
 use Prim.Native.Nat.{ℕ}
-use Rattle.matrix.specs.Matrix.{pairsAtOrAbove}
+use Rattle.matrix.specs.Matrix.{Pair, pairsAtOrAbove}
 use Rattle.text.specs.Bytes.{ascii}
 use Rattle.text.specs.Numbers.{spelled}
 use Rattle.text.specs.Lines.{line}
-use Rattle.listing.specs.Pairs.{Pair, pairs}
+use Rattle.listing.specs.Pairs.{pairs}
 
 -- The verdict as it is listed: wide where some procedure can reach itself by calls, else exact.
 abbrev pub verdictText : Bool → List ℕ

@@ -6,7 +6,7 @@ use Prim.Native.Nat.{ℕ, _+_, _<_}
 use lib.Dec.{eqb}
 use Rattle.numbers.specs.General.{oneIf}
 use Rattle.text.specs.Bytes.{newline}
-use Rattle.listing.specs.Pairs.{Pair}
+use Rattle.matrix.specs.Matrix.{Pair}
 
 -- One pair stands before another: by its first label, and where those are the same by its second.
 abbrev pub Before : Pair → Pair → Type 0

@@ -6,11 +6,7 @@ use lib.Dec.{eqb, leb}
 use Rattle.numbers.specs.General.{inTurn}
 use Rattle.numbers.specs.Sizes.{labelCeiling}
 use Rattle.labels.specs.Sets.{member}
-use Rattle.matrix.specs.Matrix.{partners}
-
--- Two labels.
-abbrev pub Pair : Type 0
-Pair = ℕ × ℕ
+use Rattle.matrix.specs.Matrix.{Pair, partners}
 
 -- The pair (i,j) alone, if i is not above j and j is among the partners of i; else no pair.
 unfoldable pub pairAt : List ℕ → ℕ → ℕ → List Pair

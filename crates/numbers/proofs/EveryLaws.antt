@@ -1,8 +1,8 @@
 -- A test that passes at each number below n, from the last down: a failure ends it, and a pass leaves the rest.
 -- Assumes nothing.
-use mathlib.Core.Bool.{Bool, true, false, _&&_}
+use mathlib.Core.Bool.{Bool, true, false, _&&_, true≢false}
 use mathlib.Core.Logic.{_⊎_, inl, inr}
-use mathlib.Core.Path.{_≡_, refl, sym, ap, _∙_, subst}
+use mathlib.Core.Path.{_≡_, refl, sym, ap, ap₂, _∙_, subst}
 use Prim.Native.Nat.{ℕ, zero, suc, _-_, _<_}
 use native.Mathlib.Nat.{not-suc-le-zero, eq-or-lt-of-le, le-of-suc-le-suc, le-refl}
 use native.Mathlib.Omega.{arith}
@@ -55,3 +55,19 @@ module _ (test : ℕ → Bool) where
       every-next n
       ∙ ap (λ (b : Bool). b && test n) (passes-every n (λ k h. e k (omega arith)))
       ∙ e n (le-refl (suc n))
+
+  -- a test that does not pass everywhere fails somewhere
+  pub some-fails : (n : ℕ) → every n test ≡ false → (k : ℕ) × (test k ≡ false)
+  unfolding every
+  some-fails zero e = absurd (true≢false e)
+  some-fails (suc n) e = go (every n test) (some-fails n) e
+    where
+      go : (a : Bool) → (a ≡ false → (k : ℕ) × (test k ≡ false)) → (a && test n) ≡ false → (k : ℕ) × (test k ≡ false)
+      go true before e = (n, e)
+      go false before e = before refl
+
+-- two tests that agree below n pass everywhere alike
+pub every-alike : (n : ℕ) (test other : ℕ → Bool) → ((k : ℕ) → k < n → test k ≡ other k) → every n test ≡ every n other
+unfolding every
+every-alike zero test other e = refl
+every-alike (suc n) test other e = ap₂ _&&_ (every-alike n test other (λ k h. e k (omega arith))) (e n (le-refl (suc n)))
