@@ -1,21 +1,19 @@
 -- After 3n rounds of n procedures nothing changes: L at a label depends on L at that label alone, O at a label on O there and on L, M at a pair on M there
 -- and on O and L; so each is a growing family of n yes/no values, whose repeats last from round 0, n and 2n on. Assumes nothing.
 use mathlib.Core.Path.{_≡_, refl, sym, ap, ap₂, _∙_, subst}
-use mathlib.Core.Bool.{Bool, true, _&&_, and-eq-true-iff}
+use mathlib.Core.Bool.{true, _&&_, and-eq-true-iff}
 use mathlib.Core.List.{List}
-use Prim.Native.Nat.{ℕ, zero, suc, _+_, _*_, _/_, _%_, _≤_, _<_, min, max}
-use native.Mathlib.Nat.{le-refl, le-of-eq, mod-lt, not-suc-le-zero}
+use Prim.Native.Nat.{ℕ, zero, suc, _+_, _*_, _≤_, _<_, min, max}
+use native.Mathlib.Nat.{le-refl, le-of-eq}
 use native.Mathlib.Decide.{decLt}
 use native.Mathlib.Omega.{arith}
-use lib.Dec.{lit<}
 use lib.ListN.{length, getD, List·getD-eq-default}
 use lib.Seq.{ext-getD}
-use borrow.Author.Count.{below-more}
-use Rattle.numbers.specs.Sizes.{wordBits, labelCeiling, matrixWords}
+use Rattle.numbers.specs.Sizes.{labelCeiling, matrixWords}
 use Rattle.numbers.proofs.EveryLaws.{every-passes, passes-every}
 use Rattle.labels.specs.Words.{alike}
-use Rattle.labels.specs.Sets.{member, none, union}
-use Rattle.labels.proofs.SetLaws.{member-lt, member-none, member-at, member-union, members-make-the-set}
+use Rattle.labels.specs.Sets.{member, union}
+use Rattle.labels.proofs.SetLaws.{member-lt, member-none, member-union, members-make-the-set}
 use Rattle.labels.proofs.AlikeLaws.{alike-same-words, same-words-alike}
 use Rattle.matrix.specs.Matrix.{marked, merged, crossed}
 use Rattle.matrix.proofs.MatrixLaws.{marked-lt, marked-none, marked-merged, marked-crossed, marks-make-the-matrix}

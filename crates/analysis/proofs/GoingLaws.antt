@@ -1,16 +1,16 @@
 -- The rounds so far: the state holds round k, and no earlier round repeated. A round that does not repeat leads to the next, one that does is the first.
 -- Assumes nothing.
 use mathlib.Core.Path.{_≡_, refl, sym, ap, ap₂, _∙_, subst}
-use mathlib.Core.Bool.{Bool, true, false, _&&_, false≢true}
+use mathlib.Core.Bool.{Bool, true, false, false≢true}
 use mathlib.Core.Logic.{inl, inr}
-use mathlib.Core.List.{List, []}
-use Prim.Native.Nat.{ℕ, zero, suc, _+_, _*_, _≤_, _<_}
+use mathlib.Core.List.{List}
+use Prim.Native.Nat.{ℕ, suc, _+_, _*_, _≤_, _<_}
 use native.Mathlib.Decide.{decLt}
 use native.Mathlib.Nat.{zero-mul}
 use native.Mathlib.Numerals.{add-one}
 use native.Mathlib.Omega.{arith}
 use lib.ListN.{length, getD, take, drop}
-use Rattle.numbers.specs.Sizes.{matrixWords, Size, ours}
+use Rattle.numbers.specs.Sizes.{matrixWords, Size}
 use Rattle.numbers.specs.General.{laid, lowest, every}
 use Rattle.numbers.proofs.LowestLaws.{Passed, passed-none, passed-more, passed-found}
 use Rattle.labels.specs.Words.{alike}
@@ -18,9 +18,9 @@ use Rattle.calculus.specs.Syntax.{Stmt, skip, step, seq, loop, async, finish, c
 use Rattle.calculus.specs.Calls.{CallsIn}
 use Rattle.recipe.specs.Rules.{admitted}
 use Rattle.recipe.specs.Tables.{Table, tableOf}
-use Rattle.recipe.specs.Statements.{statementAt, programOf}
+use Rattle.recipe.specs.Statements.{programOf}
 use Rattle.recipe.proofs.Admitted.{sizes-right, root-row}
-use Rattle.recipe.proofs.AloneLaws.{same-statement, calls-in-range}
+use Rattle.recipe.proofs.AloneLaws.{calls-in-range}
 use Rattle.recipe.proofs.Readings.{program-length, body-of-root}
 use Rattle.analysis.specs.Summaries.{WordSummary, emptyWords, followedWords, loopedWords, spawnedWords, waitedWords, wordsOf}
 use Rattle.analysis.specs.Rounds.{after, sameWords, settled}
@@ -92,22 +92,21 @@ module _ {z : Size} {kinds xs ys roots held new : List ℕ} {k : ℕ} (g : Going
       ap (λ (s : List ℕ). heldFor w s f) (g .state) ∙ held-blocks w (after w p k) (z .procs) (λ f h. shaped-after w p k f) f h
 
   -- the bodies are those of the next round
-  body-after : (f : ℕ) → f < length roots → bodyWords w kinds xs ys roots held f ≡ after w p (suc k) f
+  body-after : (f : ℕ) → f < length roots → bodyWords w p held f ≡ after w p (suc k) f
   unfolding after
-  body-after f h =
-      ap (wordsOf w (heldFor w held)) (same-statement kinds xs ys [] roots (getD roots f 0) ∙ sym (body-of-root t f h))
-      ∙ words-alike w (heldFor w held) (after w p k) (body p f)
-      (λ c l. held-after c (callee-there c (subst (λ (s : Stmt). CallsIn s c) (body-of-root t f h) l)))
+  body-after f h = words-alike w (heldFor w held) (after w p k) (body p f) (λ c l. held-after c (callee-there c l))
     where
-      callee-there : (c : ℕ) → CallsIn (statementAt t (getD roots f 0)) c → c < z .procs
-      callee-there c l = omega (arith, few-procs, calls-in-range z t (g .ok) (getD roots f 0) (root-row z t (g .ok) f h) c l)
+      callee-there : (c : ℕ) → CallsIn (body p f) c → c < z .procs
+      callee-there c l =
+          let called = subst (λ (s : Stmt). CallsIn s c) (body-of-root t f h) l in
+          omega (arith, few-procs, calls-in-range z t (g .ok) (getD roots f 0) (root-row z t (g .ok) f h) c called)
 
-  module _ {new' : List ℕ} (e : new' ≡ laid (blocks (length roots) (bodyWords w kinds xs ys roots held)) new) where
+  module _ {new' : List ℕ} (e : new' ≡ laid (blocks (length roots) (bodyWords w p held)) new) where
     next-state : new' ≡ stateAfter z p (suc k)
     next-state =
         e
-        ∙ ap (laid (blocks (length roots) (bodyWords w kinds xs ys roots held))) (g .room ∙ g .state)
-        ∙ state-further w (length roots) (z .procs) (bodyWords w kinds xs ys roots held) (after w p (suc k)) (after w p k) few-procs
+        ∙ ap (laid (blocks (length roots) (bodyWords w p held))) (g .room ∙ g .state)
+        ∙ state-further w (length roots) (z .procs) (bodyWords w p held) (after w p (suc k)) (after w p k) few-procs
         (shaped-after w p (suc k)) (shaped-after w p k) body-after
         (λ f past. repeats-beyond w p k f (subst (λ (n : ℕ). n ≤ f) (sym (program-length t)) past))
 

@@ -33,7 +33,7 @@ L x = x .L
 -- from a whole state every row of an admitted table has a whole summary
 pub shaped-row :
     {z : Size} {kinds xs ys held : List ℕ} → OfAdmitted z kinds xs ys → Sized (stateWords z) held
-    → (i : ℕ) → i < length kinds → Shaped (z .words) (rowWords (z .words) kinds xs ys held i)
+    → (i : ℕ) → i < length kinds → Shaped (z .words) (rowWords (z .words) (rowsAlone kinds xs ys) held i)
 shaped-row {z} {kinds} {xs} {ys} {held} table state i h =
     shaped-called (z .words) (heldFor (z .words) held) (statementAt (rowsAlone kinds xs ys) i)
     (λ f c. shaped-held z state f (calls-below table i h f c))
@@ -75,7 +75,7 @@ module _ {z : Size} {pairs kinds xs ys held : List ℕ} {row : ℕ} (a : Standin
   at = statementAt (rowsAlone kinds xs ys)
 
   abbrev of : ℕ → WordSummary
-  of = rowWords w kinds xs ys held
+  of = rowWords w (rowsAlone kinds xs ys) held
 
   abbrev x : ℕ
   x = getD xs row 0

@@ -4,7 +4,7 @@ use mathlib.Core.Path.{_≡_, refl, sym, ap, ap₂, _∙_, subst}
 use mathlib.Core.Logic.{_⊎_, inl, inr}
 use mathlib.Core.List.{List, [], _∷_, _++_, append-assoc, append-nil}
 use Prim.Native.Nat.{ℕ, zero, suc, _+_, _-_, _*_, _≤_, _<_}
-use native.Mathlib.Nat.{suc-mul, zero-mul, mul-le-mul-right, le-of-suc-le-suc, eq-or-lt-of-le, not-suc-le-zero, le-of-eq, add-assoc}
+use native.Mathlib.Nat.{suc-mul, zero-mul, mul-le-mul-right, le-of-suc-le-suc, eq-or-lt-of-le, not-suc-le-zero, add-assoc}
 use native.Mathlib.Omega.{arith}
 use lib.ListN.{length, getD, take, drop, length-append, length-drop, replicate-append-replicate}
 use lib.Seq.{length-take-le, take-at, drop-at, drop-drop, drop-length, drop-append-le, drop-cons}

@@ -2,8 +2,7 @@
 -- Assumes nothing.
 use mathlib.Core.Path.{_≡_, refl, sym, ap, ap₂, _∙_, subst}
 use mathlib.Core.List.{List, [], _∷_, _++_, append-assoc}
-use Prim.Native.Nat.{ℕ, suc, _+_, _*_, _≤_, _<_}
-use native.Mathlib.Nat.{zero-mul}
+use Prim.Native.Nat.{ℕ, suc, _+_, _≤_, _<_}
 use native.Mathlib.Numerals.{add-one}
 use native.Mathlib.Omega.{arith}
 use borrow.Rule.Slice.PartMut.{putMid}
@@ -11,11 +10,14 @@ use lib.ListN.{length, getD, take, drop, set, length-append}
 use lib.Seq.{length-take-le, drop-drop, drop-cons, set-at}
 use Rattle.numbers.specs.General.{laid}
 use Rattle.numbers.specs.Sizes.{Size, matrixWords}
-use Rattle.recipe.specs.Rules.{admitted}
+use Rattle.recipe.specs.Inner.{rowsAlone}
+use Rattle.recipe.specs.Statements.{programOf}
 use Rattle.recipe.specs.Tables.{tableOf}
 use Rattle.recipe.proofs.Admitted.{sizes-right, root-row}
-use Rattle.analysis.specs.Summaries.{WordSummary}
-use Rattle.analysis.specs.Inner.{Ready, Turn, stateWords, blocks, bodyWords, storedAt}
+use Rattle.recipe.proofs.AloneLaws.{same-statement}
+use Rattle.recipe.proofs.Readings.{body-of-root}
+use Rattle.analysis.specs.Summaries.{WordSummary, wordsOf}
+use Rattle.analysis.specs.Inner.{Ready, Turn, stateWords, blocks, heldFor, rowWords, bodyWords, storedAt}
 use Rattle.analysis.proofs.Shape.{Sized, Shaped}
 use Rattle.analysis.proofs.RowCases.{shaped-row}
 use Rattle.analysis.proofs.States.{blocks-none, length-blocks, stored-next}
@@ -72,13 +74,20 @@ module _ {z : Size} {new kinds xs ys roots held : List ℕ} (u : Turn z new kind
         state = u .state;
       }
 
+-- a procedure's body is the statement of its root, with the other roots or without
+pub root-body :
+    (w : ℕ) (kinds xs ys roots held : List ℕ) (f : ℕ) → f < length roots
+    → rowWords w (rowsAlone kinds xs ys) held (getD roots f 0) ≡ bodyWords w (programOf (tableOf kinds xs ys roots)) held f
+root-body w kinds xs ys roots held f h =
+    ap (wordsOf w (heldFor w held)) (same-statement kinds xs ys [] roots (getD roots f 0) ∙ sym (body-of-root (tableOf kinds xs ys roots) f h))
+
 -- ---- a round so far: the first f bodies are stored
 
 pub record Rounding (z : Size) (first new kinds xs ys roots held : List ℕ) (f : ℕ) : Type 0 where
   pub passed : f ≤ length roots
   pub turn : Turn z new kinds xs ys roots held
   pub words : Sized (stateWords z) held
-  pub stored : new ≡ laid (blocks f (bodyWords (z .words) kinds xs ys roots held)) first
+  pub stored : new ≡ laid (blocks f (bodyWords (z .words) (programOf (tableOf kinds xs ys roots)) held)) first
   pub size : length new ≡ length first
 
 pub round-begins :
@@ -89,7 +98,7 @@ round-begins {z} {new} {kinds} {xs} {ys} {roots} {held} u state =
       passed = omega arith;
       turn = u;
       words = state;
-      stored = sym (ap (λ (s : List ℕ). laid s new) (blocks-none (bodyWords (z .words) kinds xs ys roots held)));
+      stored = sym (ap (λ (s : List ℕ). laid s new) (blocks-none (bodyWords (z .words) (programOf (tableOf kinds xs ys roots)) held)));
       size = refl;
     }
 
@@ -98,11 +107,13 @@ module _ {z : Size} {first new kinds xs ys roots held : List ℕ} {f : ℕ} (r :
   w = z .words
 
   abbrev bodies : ℕ → WordSummary
-  bodies = bodyWords w kinds xs ys roots held
+  bodies = bodyWords w (programOf (tableOf kinds xs ys roots)) held
 
   shaped-body : (g : ℕ) → g < length roots → Shaped w (bodies g)
   shaped-body g h =
-      shaped-row (record { roots = roots; ok = r .turn .ok }) (r .words) (getD roots g 0) (root-row z (tableOf kinds xs ys roots) (r .turn .ok) g h)
+      subst (Shaped w) (root-body w kinds xs ys roots held g h)
+      (shaped-row (record { roots = roots; ok = r .turn .ok }) (r .words) (getD roots g 0)
+      (root-row z (tableOf kinds xs ys roots) (r .turn .ok) g h))
 
   pub round-goes-on :
       {new' : List ℕ} → f < length roots → length new' ≡ length new → new' ≡ storedAt w new f (bodies f)

@@ -2,13 +2,14 @@
 use mathlib.Core.Path.{_≡_}
 use mathlib.Core.List.{List, [], _∷_, _++_}
 use Prim.Native.Nat.{ℕ, _+_, _*_, _<_}
-use lib.ListN.{length, getD, take, drop}
+use lib.ListN.{length, take, drop}
 use Rattle.numbers.specs.Sizes.{matrixWords, Size}
 use Rattle.numbers.specs.General.{inTurn, laid}
 use Rattle.matrix.specs.Matrix.{merged}
+use Rattle.calculus.specs.Syntax.{Program, body}
 use Rattle.recipe.specs.Rules.{admitted}
-use Rattle.recipe.specs.Inner.{OfAdmitted, rowsAlone}
-use Rattle.recipe.specs.Tables.{tableOf}
+use Rattle.recipe.specs.Inner.{OfAdmitted}
+use Rattle.recipe.specs.Tables.{Table, tableOf}
 use Rattle.recipe.specs.Statements.{statementAt}
 use Rattle.analysis.specs.Summaries.{WordSummary, wordsOf}
 use Rattle.analysis.specs.declared.summary.LabelSummary.{LabelSummary}
@@ -55,12 +56,12 @@ abbrev pub storedAt : ℕ → List ℕ → ℕ → WordSummary → List ℕ
 storedAt w s f x = take (f * blockWords w) s ++ laid (block x) (drop (f * blockWords w) s)
 
 -- The summary of a row's statement, from the summaries that a state holds.
-abbrev pub rowWords : ℕ → List ℕ → List ℕ → List ℕ → List ℕ → ℕ → WordSummary
-rowWords w kinds xs ys held row = wordsOf w (heldFor w held) (statementAt (rowsAlone kinds xs ys) row)
+abbrev pub rowWords : ℕ → Table → List ℕ → ℕ → WordSummary
+rowWords w t held row = wordsOf w (heldFor w held) (statementAt t row)
 
 -- The summary of procedure f's body, from the summaries that a state holds.
-abbrev pub bodyWords : ℕ → List ℕ → List ℕ → List ℕ → List ℕ → List ℕ → ℕ → WordSummary
-bodyWords w kinds xs ys roots held f = rowWords w kinds xs ys held (getD roots f 0)
+abbrev pub bodyWords : ℕ → Program → List ℕ → ℕ → WordSummary
+bodyWords w p held f = wordsOf w (heldFor w held) (body p f)
 
 -- What working out a row asks: rows of an admitted table, a row that is there, a whole matrix and a whole state.
 pub record Ready (z : Size) (pairs kinds xs ys held : List ℕ) (row : ℕ) : Type 0 where

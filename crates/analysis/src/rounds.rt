@@ -5,6 +5,7 @@ ghost use lib.ListN.{length};
 ghost use Rattle.numbers.specs.Sizes.{matrixWords, ours};
 ghost use Rattle.numbers.specs.General.{laid};
 ghost use Rattle.recipe.specs.Rules.{admitted};
+ghost use Rattle.recipe.specs.Inner.{rowsAlone};
 ghost use Rattle.recipe.specs.Tables.{tableOf};
 ghost use Rattle.recipe.specs.Statements.{programOf};
 ghost use Rattle.analysis.specs.Replies.{rounds, mainPairs};
@@ -27,8 +28,8 @@ fn body_summary(
     root: RowNumber,
 ) -> LabelSummary
     requires { ⌜ Ready ours (now pairs) (now kinds) (now xs) (now ys) (now held) (root .0) ⌝ }
-    ensures { λ r. let x = rowWords (ours .words) (now (kinds .entry)) (now (xs .entry)) (now (ys .entry)) (now (held .entry)) (root .0) in
-        ⌜ summaryWords r (now (pairs .exit)) ≡ x ⌝ }
+    ensures { λ r. let t = rowsAlone (now (kinds .entry)) (now (xs .entry)) (now (ys .entry)) in
+        ⌜ summaryWords r (now (pairs .exit)) ≡ rowWords (ours .words) t (now (held .entry)) (root .0) ⌝ }
 {
     matrix::clear(pairs);
     row_summary(pairs, kinds, xs, ys, held, root)
@@ -46,7 +47,8 @@ fn one_body(
 )
     requires { ⌜ Turn ours (now new) (now kinds) (now xs) (now ys) (now roots) (now held) ⌝ }
     requires { ⌜ f .0 < length (now roots) ⌝ }
-    ensures { λ _. let x = bodyWords (ours .words) (now (kinds .entry)) (now (xs .entry)) (now (ys .entry)) (now (roots .entry)) (now (held .entry)) in
+    ensures { λ _. let t = tableOf (now (kinds .entry)) (now (xs .entry)) (now (ys .entry)) (now (roots .entry)) in
+        let x = bodyWords (ours .words) (programOf t) (now (held .entry)) in
         ⌜ now (new .exit) ≡ storedAt (ours .words) (now (new .entry)) (f .0) (x (f .0)) ⌝ }
 {
     let at = f.0 as usize;
@@ -61,7 +63,8 @@ fn one_body(
 // A round: every body, called or not.
 fn round(new: &mut [u64], kinds: &[u8], xs: &[u16], ys: &[u16], roots: &[u16], held: &[u64])
     requires { ⌜ Turn ours (now new) (now kinds) (now xs) (now ys) (now roots) (now held) ⌝ }
-    ensures { λ _. let x = bodyWords (ours .words) (now (kinds .entry)) (now (xs .entry)) (now (ys .entry)) (now (roots .entry)) (now (held .entry)) in
+    ensures { λ _. let t = tableOf (now (kinds .entry)) (now (xs .entry)) (now (ys .entry)) (now (roots .entry)) in
+        let x = bodyWords (ours .words) (programOf t) (now (held .entry)) in
         ⌜ now (new .exit) ≡ laid (blocks (length (now (roots .entry))) x) (now (new .entry)) ⌝ }
 {
     let mut f = 0;

@@ -3,6 +3,7 @@ ghost use mathlib.Core.Path.{_≡_};
 ghost use Prim.Native.Nat.{_<_};
 ghost use lib.ListN.{length};
 ghost use Rattle.numbers.specs.Sizes.{ours};
+ghost use Rattle.recipe.specs.Inner.{rowsAlone};
 ghost use Rattle.analysis.specs.Summaries.{followedWords, loopedWords, spawnedWords, waitedWords};
 ghost use Rattle.analysis.specs.Inner.{summaryWords, markedInto, stateWords, heldFor, rowWords, Ready};
 use crate::state::BLOCK_WORDS;
@@ -71,7 +72,8 @@ pub(crate) fn row_summary(
     row: RowNumber,
 ) -> LabelSummary
     requires { ⌜ Ready ours (now pairs) (now kinds) (now xs) (now ys) (now held) (row .0) ⌝ }
-    ensures { λ r. let x = rowWords (ours .words) (now (kinds .entry)) (now (xs .entry)) (now (ys .entry)) (now (held .entry)) (row .0) in
+    ensures { λ r. let t = rowsAlone (now (kinds .entry)) (now (xs .entry)) (now (ys .entry)) in
+        let x = rowWords (ours .words) t (now (held .entry)) (row .0) in
         ⌜ summaryWords r (now (pairs .exit)) ≡ markedInto (ours .words) (now (pairs .entry)) x ⌝ }
 {
     let i = row.0 as usize;

@@ -11,7 +11,7 @@ use lib.ListN.{length, take, drop, set, length-drop, length-set}
 use lib.Seq.{length-take-le}
 use Rattle.numbers.specs.Sizes.{ours, matrixWords}
 use Rattle.analysis.specs.Inner.{blockWords, storedAt}
-use Rattle.analysis.proofs.TurnLaws.{few-procs, ready-root, words-stored}
+use Rattle.analysis.proofs.TurnLaws.{few-procs, ready-root, words-stored, root-body}
 use Rattle.analysis.proofs.rounds.one_body.Statement.{statement}
 use Rattle.analysis.proofs.rounds.one_body.Tie as tie
 
@@ -109,7 +109,8 @@ returns c =
     ap (λ (n : ℕ). set (set (putMid (at s) n (now (s .args .new)) (b .last .0)) end (b .result .o)) (end + w) (b .result .l)) (span-is s)
     ∙ words-stored (now (s .args .new)) (b .last .0) (at s) (matrixWords w) (b .result .o) (b .result .l) (b .kept .0 ∙ part-size s)
     (omega (arith, fits s))
-    ∙ ap (storedAt w (now (s .args .new)) (s .args .f .0)) (b .ensures)
+    ∙ ap (storedAt w (now (s .args .new)) (s .args .f .0))
+    (b .ensures ∙ root-body w (now (s .args .kinds)) (now (s .args .xs)) (now (s .args .ys)) (now (s .args .roots)) (now (s .args .held)) _ (s .pre .1))
 
 pub one-body-spec : {M : Type 1} → statement M
 one-body-spec =

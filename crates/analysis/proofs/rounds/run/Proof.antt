@@ -11,7 +11,6 @@ use lib.Seq.{length-take-le}
 use Rattle.numbers.specs.General.{laid}
 use Rattle.numbers.specs.Sizes.{ours, matrixWords}
 use Rattle.matrix.proofs.MatrixLaws.{copied-laid}
-use Rattle.analysis.specs.Inner.{stateWords}
 use Rattle.analysis.proofs.GoingLaws.{Going, rounds-begin, few-procs, state-size, room-size, turn, not-yet, rounds-go-on, rounds-end, main-first}
 use Rattle.analysis.proofs.rounds.run.Statement.{statement}
 use Rattle.analysis.proofs.rounds.run.Tie as tie
