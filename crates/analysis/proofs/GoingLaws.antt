@@ -13,6 +13,7 @@ use lib.ListN.{length, getD, take, drop}
 use Rattle.numbers.specs.Sizes.{matrixWords, Size}
 use Rattle.numbers.specs.General.{laid, lowest, every}
 use Rattle.numbers.proofs.LowestLaws.{Passed, passed-none, passed-more, passed-found}
+use Rattle.numbers.proofs.EveryLaws.{every-alike}
 use Rattle.labels.specs.Words.{alike}
 use Rattle.calculus.specs.Syntax.{Stmt, skip, step, seq, loop, async, finish, call, Program, body}
 use Rattle.calculus.specs.Calls.{CallsIn}
@@ -27,7 +28,7 @@ use Rattle.analysis.specs.Rounds.{after, sameWords, settled}
 use Rattle.analysis.specs.Replies.{rounds, mainPairs}
 use Rattle.analysis.specs.Inner.{Turn, blockWords, stateWords, blocks, heldFor, bodyWords}
 use Rattle.analysis.proofs.Bound.{final-settled, repeats-beyond}
-use Rattle.analysis.proofs.SameLaws.{every-alike, states-alike}
+use Rattle.analysis.proofs.SameLaws.{states-alike}
 use Rattle.analysis.proofs.Shape.{shaped-after}
 use Rattle.analysis.proofs.States.{length-blocks, held-blocks, state-further}
 

@@ -1,26 +1,20 @@
 -- Two states are compared word by word, which compares them block by block: the words of a block are those of M, O and L.
 -- Assumes nothing.
-use mathlib.Core.Path.{_≡_, refl, sym, ap, ap₂, _∙_}
+use mathlib.Core.Path.{_≡_, sym, ap, ap₂, _∙_}
 use mathlib.Core.Bool.{Bool, _&&_, and-true, and-assoc}
 use mathlib.Core.List.{List}
-use Prim.Native.Nat.{ℕ, zero, suc, _+_, _*_, _<_}
+use Prim.Native.Nat.{ℕ, zero, suc, _+_, _*_}
 use native.Mathlib.Nat.{add-zero, add-suc, suc-mul, zero-mul}
-use native.Mathlib.Omega.{arith}
 use lib.Dec.{eqb}
 use lib.ListN.{getD, take, drop}
 use lib.Seq.{getD-take, getD-drop}
 use Rattle.numbers.specs.Sizes.{matrixWords}
 use Rattle.numbers.specs.General.{every}
+use Rattle.numbers.proofs.EveryLaws.{every-alike}
 use Rattle.labels.specs.Words.{alike}
 use Rattle.labels.proofs.AlikeLaws.{alike-none}
 use Rattle.analysis.specs.Rounds.{sameWords}
 use Rattle.analysis.specs.Inner.{blockWords, summaryIn, heldFor}
-
--- tests that reply alike below n
-pub every-alike : (n : ℕ) (p q : ℕ → Bool) → ((k : ℕ) → k < n → p k ≡ q k) → every n p ≡ every n q
-unfolding every
-every-alike zero p q e = refl
-every-alike (suc n) p q e = ap₂ _&&_ (every-alike n p q (λ k h. e k (omega arith))) (e n (omega arith))
 
 -- the first a numbers, then the next b
 every-split : (test : ℕ → Bool) (a b : ℕ) → every (a + b) test ≡ (every a test && every b (λ k. test (a + k)))

@@ -69,7 +69,7 @@ same-requires : tie.Need-same-requires Inv-loop μ-loop
 same-requires c κs =
     let r = c .before .before .before in
     let g = worked r .loop .inv in
-    (few-procs g, (r .round .kept .0 ∙ room-size g, state-size g))
+    (omega (arith, few-procs g), (r .round .kept .0 ∙ room-size g, state-size g))
 
 add-k : tie.Need-add-k Inv-loop μ-loop
 add-k c =
