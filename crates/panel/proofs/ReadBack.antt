@@ -1,9 +1,10 @@
--- A caller in C can tell every reply by its number: a refusal's number is at least 1 and stands above 2^32, and every place, count and length that a reply has is below.
+-- A caller in C can tell every reply by its number: a refusal's number is at least 1 and stands above 2^32, and every place, count and length that a reply
+-- has is below.
 -- Assumes nothing.
 use mathlib.Core.Bool.{Bool, true, false, cond}
 use mathlib.Core.List.{List, [], _∷_}
 use mathlib.Core.Path.{_≡_, refl, sym, ap, ap₂, subst}
-use Prim.Native.Nat.{ℕ, _+_, _*_, _^_, _≤_, _<_, min}
+use Prim.Native.Nat.{ℕ, _+_, _*_, _≤_, _<_, min}
 use native.Mathlib.Omega.{arith}
 use borrow.Author.Tests.{leb-true, leb-false, not-false}
 use lib.Dec.{leb}
@@ -11,10 +12,11 @@ use lib.ListN.{length, length-append}
 use Rattle.numbers.specs.Sizes.{ours, rowCeiling, sheetCeiling}
 use Rattle.numbers.specs.Refusals.{refusalNumber, refusalPlace}
 use Rattle.numbers.specs.declared.Refusal.{Refusal}
-use Rattle.numbers.specs.declared.Refusal.the-variants.{Sizes, ShortMatrix, UnknownKind, WrongOperand, NoSuchRow, UsedAgain, Unused, LongSheet, WrongForm, NoRoom, LongListing}
+use Rattle.numbers.specs.declared.Refusal.the-variants.{Sizes, ShortMatrix, UnknownKind, WrongOperand, NoSuchRow, UsedAgain, Unused, LongSheet, WrongForm}
+use Rattle.numbers.specs.declared.Refusal.the-variants.{NoRoom, LongListing}
 use Rattle.numbers.proofs.Refusals.{refusal-determined}
 use Rattle.recipe.specs.Offences.{Refuses}
-use Rattle.recipe.specs.Rules.{Rule, sizesFit, sizesRule, matrixRule, furtherRules, rulesWith, judgedWith}
+use Rattle.recipe.specs.Rules.{Rule, sizesFit, matrixRule, furtherRules, rulesWith, judgedWith}
 use Rattle.recipe.specs.Statements.{programOf}
 use Rattle.recipe.specs.Tables.{Table, rows, procs}
 use Rattle.recipe.specs.declared.Judged.{Judged}
@@ -23,7 +25,7 @@ use Rattle.recipe.specs.declared.Row.{Row}
 use Rattle.recipe.proofs.Judging.{sized}
 use Rattle.recipe.proofs.Offences.{refused-with-means}
 use Rattle.recipe.proofs.WithMatrix.{admitted-with}
-use Rattle.analysis.specs.Replies.{rounds, analysedAs, analysed}
+use Rattle.analysis.specs.Replies.{analysedAs, analysed}
 use Rattle.analysis.specs.declared.Analysed.{Analysed}
 use Rattle.analysis.specs.declared.Analysed.the-variants as analysis
 use Rattle.sheet.specs.Form.{spell, spelledRow, spelledRoot}
@@ -123,7 +125,8 @@ listed-fits : (t : Table) (words room : ℕ) → FitsListed (listed ours t words
 unfolding listed fitted
 listed-fits t words room = go (judgedWith ours t words) refl
   where
-    text : (b : Bool) → length (listingOf ours (programOf t)) ≤ longestListing → FitsListed (cond b (listing.Length (length (listingOf ours (programOf t)))) (listing.Refused LongListing))
+    text : (b : Bool) → length (listingOf ours (programOf t)) ≤ longestListing
+        → FitsListed (cond b (listing.Length (length (listingOf ours (programOf t)))) (listing.Refused LongListing))
     text true h = omega (arith, h)
     text false h = omega arith
 

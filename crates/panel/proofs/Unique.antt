@@ -1,4 +1,5 @@
--- Two replies and later contents that meet a public function's contract are equal, since each contract is an equation. `Post` is the contract itself; for the entries on records, `Analyses`, `Reads` and `Lists` are what it states.
+-- Two replies and later contents that meet a public function's contract are equal, since each contract is an equation. `Post` is the contract itself; for the
+-- entries on records, `Analyses`, `Reads` and `Lists` are what it states.
 -- Assumes nothing.
 use mathlib.Core.Path.{_≡_, refl, sym, _∙_}
 use mathlib.Core.List.{List}
@@ -77,7 +78,8 @@ module _ {M : Type 1} (𝓤 : URA M) (H : Heap 𝓤) (A : Atoms 𝓤) (mem : Mem
 
   pub list-rows-states :
       (κs a n e : _)
-      → listing.clauses 𝓤 H A mem run κs a .ensures tt n e ≡ fact 𝓤 (Lists (now (a .0)) (now (a .1 .0)) (now (a .1 .1 .0)) (now (a .1 .1 .1 .0)) n (now (e .1 .1 .0)) (now (e .1 .1 .1 .0)))
+      → listing.clauses 𝓤 H A mem run κs a .ensures tt n e ≡ fact 𝓤
+      (Lists (now (a .0)) (now (a .1 .0)) (now (a .1 .1 .0)) (now (a .1 .1 .1 .0)) n (now (e .1 .1 .0)) (now (e .1 .1 .1 .0)))
   list-rows-states κs a n e = refl
 
 pub analyse-rows-determined :
@@ -85,9 +87,11 @@ pub analyse-rows-determined :
 analyse-rows-determined rows roots m n n' s s' p q = (p .0 ∙ sym (q .0), p .1 ∙ sym (q .1))
 
 pub read-rows-determined :
-    (bytes : List ℕ) (rows : List Row) (roots : List ℕ) (n n' : ℕ) (s s' : List Row) (t t' : List ℕ) → Reads bytes rows roots n s t → Reads bytes rows roots n' s' t' → (n ≡ n') × (s ≡ s') × (t ≡ t')
+    (bytes : List ℕ) (rows : List Row) (roots : List ℕ) (n n' : ℕ) (s s' : List Row) (t t' : List ℕ) → Reads bytes rows roots n s t
+    → Reads bytes rows roots n' s' t' → (n ≡ n') × (s ≡ s') × (t ≡ t')
 read-rows-determined bytes rows roots n n' s s' t t' p q = (p .0 ∙ sym (q .0), p .1 ∙ sym (q .1), p .2 ∙ sym (q .2))
 
 pub list-rows-determined :
-    (rows : List Row) (roots m b : List ℕ) (n n' : ℕ) (s s' t t' : List ℕ) → Lists rows roots m b n s t → Lists rows roots m b n' s' t' → (n ≡ n') × (s ≡ s') × (t ≡ t')
+    (rows : List Row) (roots m b : List ℕ) (n n' : ℕ) (s s' t t' : List ℕ) → Lists rows roots m b n s t → Lists rows roots m b n' s' t' → (n ≡ n') × (s ≡ s')
+    × (t ≡ t')
 list-rows-determined rows roots m b n n' s s' t t' p q = (p .0 ∙ sym (q .0), p .1 ∙ sym (q .1), p .2 ∙ sym (q .2))

@@ -1,5 +1,5 @@
 -- Only the contracts of inner functions speak of this: the readings whose numbers of rows and procedures a code has room for.
-use Prim.Native.Nat.{ℕ, _≤_}
+use Prim.Native.Nat.{_≤_}
 use Rattle.numbers.specs.Sizes.{ours, rowCeiling}
 use Rattle.table.specs.declared.Read.{Read}
 use Rattle.table.specs.declared.Read.the-variants as read

@@ -1,4 +1,5 @@
--- The entries on records and the entries on slices agree: the contracts of both name the same table, or the same reading, so replies and later contents that meet them are equal.
+-- The entries on records and the entries on slices agree: the contracts of both name the same table, or the same reading, so replies and later contents that
+-- meet them are equal.
 -- Assumes nothing.
 use mathlib.Core.Path.{_≡_, sym, ap, _∙_}
 use mathlib.Core.List.{List, map}

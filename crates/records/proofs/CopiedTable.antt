@@ -1,4 +1,5 @@
--- The first n entries of the copied columns are the table of the rows, where there are n of them and a table can have that many, since each column begins with a field of all rows.
+-- The first n entries of the copied columns are the table of the rows, where there are n of them and a table can have that many, since each column begins
+-- with a field of all rows.
 -- Assumes nothing.
 use mathlib.Core.Path.{_≡_, sym, ap, _∙_}
 use mathlib.Core.List.{List, map}

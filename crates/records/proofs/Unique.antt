@@ -1,4 +1,5 @@
--- Two replies and later contents that meet a public function's contract are equal, since each contract is an equation. `Answers`, `Lists` and `Reads` are what the contracts state.
+-- Two replies and later contents that meet a public function's contract are equal, since each contract is an equation. `Answers`, `Lists` and `Reads` are
+-- what the contracts state.
 -- Assumes nothing.
 use mathlib.Core.Path.{_≡_, refl, sym, _∙_}
 use mathlib.Core.List.{List}

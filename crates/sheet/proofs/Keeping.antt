@@ -19,7 +19,7 @@ use Rattle.sheet.specs.Inner.{stepFor}
 use Rattle.sheet.specs.declared.lines.Step.{Step}
 use Rattle.sheet.specs.declared.lines.Step.the-variants.{KeepRow, KeepRoot, Done, Refuse}
 use Rattle.sheet.proofs.LineForms.{row-shorter, root-shorter}
-use Rattle.sheet.proofs.StepLaws.{Stepped, ends, misformed, late, row-lacks, root-lacks, row-kept, root-kept, stepped, reads-on}
+use Rattle.sheet.proofs.StepLaws.{Stepped, row-kept, root-kept, stepped, reads-on}
 
 -- The reading of all lines.
 abbrev pub whole : List ℕ → ℕ → ℕ → Reading
@@ -87,7 +87,8 @@ module _
 
     -- Whatever line stands at the place, what is done with it is right.
     pub kept-on : (step : Step) → stepFor bytes step ≡ stepOf R P n m (lineAt (drop at bytes)) → After bytes R P rows roots n m step
-    kept-on step e = by-step step (goes-on (stepFor bytes step) e) (subst (Stepped R P n m (lineAt (drop at bytes))) (sym e) (stepped R P n m (lineAt (drop at bytes))))
+    kept-on step e = by-step step (goes-on (stepFor bytes step) e)
+        (subst (Stepped R P n m (lineAt (drop at bytes))) (sym e) (stepped R P n m (lineAt (drop at bytes))))
       where
         by-step :
             (step : Step) → whole bytes R P ≡ afterStep (readLines R P (c .lines - 1)) (c .kept) (c .kept-roots) (stepFor bytes step)

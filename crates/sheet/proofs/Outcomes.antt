@@ -1,22 +1,21 @@
--- What a reading comes to: as far as it goes, the lines spell what is kept; at the end that is the whole sheet, and any other way out is at a line that offends.
+-- What a reading comes to: as far as it goes, the lines spell what is kept; at the end that is the whole sheet, and any other way out is at a line that
+-- offends.
 -- Assumes nothing.
 use mathlib.Core.Path.{_≡_, refl, sym, ap, _∙_, subst}
 use mathlib.Core.List.{List, [], _∷_, _++_, flatMap, append-assoc, append-nil}
-use Prim.Native.Nat.{ℕ, zero, suc, _+_, _-_, _≤_, _<_, min}
-use native.Mathlib.Decide.{decLe}
+use Prim.Native.Nat.{ℕ, zero, suc, _+_, _-_, _≤_, _<_}
 use native.Mathlib.Omega.{arith}
 use lib.ListN.{length, length-append}
-use Rattle.numbers.specs.Sizes.{Size, rowCeiling, sheetCeiling}
 use Rattle.numbers.specs.declared.Refusal.{Refusal}
 use Rattle.recipe.specs.declared.Row.{Row}
-use Rattle.table.specs.Reading.{Reading, table, refused, rowsOf, rootsOf}
+use Rattle.table.specs.Reading.{Reading, table, refused}
 use Rattle.sheet.specs.Form.{spelledRow, spelledRoot, spell, Short, ShortRow, Every}
 use Rattle.sheet.specs.Lines.{lineAt, rowLine, rootLine}
-use Rattle.sheet.specs.Reading.{Step, afterStep, stepOf, readLines, readSheet}
+use Rattle.sheet.specs.Reading.{Step, afterStep, stepOf, readLines}
 use Rattle.sheet.specs.Offences.{Offends, Offence}
 use Rattle.sheet.specs.Offences as offences
 use Rattle.sheet.proofs.LineForms.{row-spelled, root-spelled, end-spelled, row-shorter, root-shorter}
-use Rattle.sheet.proofs.StepLaws.{Stepped, ends, misformed, late, row-lacks, root-lacks, row-kept, root-kept, stepped, reads-on, sheet-too-long, sheet-opened}
+use Rattle.sheet.proofs.StepLaws.{Stepped, ends, misformed, late, row-lacks, root-lacks, row-kept, root-kept, stepped, reads-on}
 
 pub spell-row : (row : Row) (rows : List Row) (roots : List ℕ) → spell (row ∷ rows) roots ≡ spelledRow row ++ spell rows roots
 unfolding spell flatMap
@@ -55,7 +54,7 @@ none-kept [] e = refl
 none-kept (x ∷ l) e = absurd (omega arith)
 
 -- Where a reading stands: the bytes so far spell what is kept, which is short and finds room.
-pub record Reached (R P : ℕ) (bytes : List ℕ) (rows : List Row) (roots s : List ℕ) : Type 0 where
+pub record ReadSoFar (R P : ℕ) (bytes : List ℕ) (rows : List Row) (roots s : List ℕ) : Type 0 where
   pub spelled : bytes ≡ spell rows roots ++ s
   pub rowsShort : Every ShortRow rows
   pub rootsShort : Every Short roots
@@ -64,14 +63,14 @@ pub record Reached (R P : ℕ) (bytes : List ℕ) (rows : List Row) (roots s : L
 
 -- What it comes to: a table that the sheet spells, or the refusal of a line that offends.
 pub data Outcome (R P : ℕ) (bytes : List ℕ) : Reading → Type 0 where
-  spelled-whole : {rows : List Row} {roots : List ℕ} → Reached R P bytes rows roots [] → Outcome R P bytes (table rows roots)
+  spelled-whole : {rows : List Row} {roots : List ℕ} → ReadSoFar R P bytes rows roots [] → Outcome R P bytes (table rows roots)
   offended : {why : Refusal} → Offence R P bytes why → Outcome R P bytes (refused why)
 
 module _ (R P : ℕ) (bytes : List ℕ) where
-  row-reached :
-      {rows : List Row} {roots s : List ℕ} {row : Row} {t : List ℕ} → Reached R P bytes rows roots s → lineAt s ≡ rowLine row t
-      → length roots ≡ 0 → length rows < R → Reached R P bytes (rows ++ (row ∷ [])) roots t
-  row-reached {rows} {roots} {s} {row} {t} r l z h =
+  row-joins :
+      {rows : List Row} {roots s : List ℕ} {row : Row} {t : List ℕ} → ReadSoFar R P bytes rows roots s → lineAt s ≡ rowLine row t
+      → length roots ≡ 0 → length rows < R → ReadSoFar R P bytes (rows ++ (row ∷ [])) roots t
+  row-joins {rows} {roots} {s} {row} {t} r l z h =
       let none = none-kept roots z in
       let line = row-spelled s l in
       record {
@@ -85,10 +84,10 @@ module _ (R P : ℕ) (bytes : List ℕ) where
         rootsFit = r .rootsFit;
       }
 
-  root-reached :
-      {rows : List Row} {roots s : List ℕ} {root : ℕ} {t : List ℕ} → Reached R P bytes rows roots s → lineAt s ≡ rootLine root t
-      → length roots < P → Reached R P bytes rows (roots ++ (root ∷ [])) t
-  root-reached {rows} {roots} {s} {root} {t} r l h =
+  root-joins :
+      {rows : List Row} {roots s : List ℕ} {root : ℕ} {t : List ℕ} → ReadSoFar R P bytes rows roots s → lineAt s ≡ rootLine root t
+      → length roots < P → ReadSoFar R P bytes rows (roots ++ (root ∷ [])) t
+  root-joins {rows} {roots} {s} {root} {t} r l h =
       let line = root-spelled s l in
       record {
         spelled = r .spelled ∙ ap (_++_ (spell rows roots)) (line .0) ∙ root-more rows roots root t;
@@ -98,25 +97,26 @@ module _ (R P : ℕ) (bytes : List ℕ) where
         rootsFit = omega (arith, length-append roots (root ∷ []));
       }
 
-  module _ {rows : List Row} {roots s : List ℕ} (r : Reached R P bytes rows roots s) where
+  module _ {rows : List Row} {roots s : List ℕ} (r : ReadSoFar R P bytes rows roots s) where
     offence : {why : Refusal} → Offends R P rows roots s (length rows + length roots) why → Offence R P bytes why
     offence o = record { rows = rows; roots = roots; rest = s; spelled = r .spelled; offends = o }
 
     -- By what is done with the line at the front; `onward` is known of the lines behind it.
     by-step :
         (k : ℕ) (step : Step) → length s ≤ k → Stepped R P (length rows) (length roots) (lineAt s) step
-        → ((rows′ : List Row) (roots′ t : List ℕ) → length t ≤ k - 1 → Reached R P bytes rows′ roots′ t → Outcome R P bytes (readLines R P (k - 1) rows′ roots′ t))
+        → ((rows′ : List Row) (roots′ t : List ℕ) → length t ≤ k - 1 → ReadSoFar R P bytes rows′ roots′ t
+        → Outcome R P bytes (readLines R P (k - 1) rows′ roots′ t))
         → Outcome R P bytes (afterStep (readLines R P (k - 1)) rows roots step)
-    by-step k step h (ends l) onward = spelled-whole (subst (Reached R P bytes rows roots) (end-spelled s l) r)
+    by-step k step h (ends l) onward = spelled-whole (subst (ReadSoFar R P bytes rows roots) (end-spelled s l) r)
     by-step k step h (misformed l) onward = offended (offence (offences.misformed l))
     by-step k step h (late l g) onward = offended (offence (offences.late l g))
     by-step k step h (row-lacks l z g) onward = offended (offence (offences.rowLacks l (none-kept roots z) (omega (arith, r .rowsFit))))
     by-step k step h (root-lacks l g) onward = offended (offence (offences.rootLacks l (omega (arith, r .rootsFit))))
-    by-step k step h (row-kept l z g) onward = onward _ _ _ (omega (arith, row-shorter s l)) (row-reached r l z g)
-    by-step k step h (root-kept l g) onward = onward _ _ _ (omega (arith, root-shorter s l)) (root-reached r l g)
+    by-step k step h (row-kept l z g) onward = onward _ _ _ (omega (arith, row-shorter s l)) (row-joins r l z g)
+    by-step k step h (root-kept l g) onward = onward _ _ _ (omega (arith, root-shorter s l)) (root-joins r l g)
 
   pub outcome :
-      (k : ℕ) (rows : List Row) (roots s : List ℕ) → length s ≤ k → Reached R P bytes rows roots s
+      (k : ℕ) (rows : List Row) (roots s : List ℕ) → length s ≤ k → ReadSoFar R P bytes rows roots s
       → Outcome R P bytes (readLines R P k rows roots s)
   unfolding readLines
   outcome zero rows roots [] h r = spelled-whole r

@@ -18,17 +18,17 @@ use Rattle.sheet.specs.Reading.{Step, keepRow, keepRoot, stepOf, afterSt
 use Rattle.sheet.specs.Offences.{Offence}
 use Rattle.sheet.proofs.LineForms.{row-line-reads, root-line-reads, row-shorter, root-shorter}
 use Rattle.sheet.proofs.LineLaws.{no-bytes}
-use Rattle.sheet.proofs.Outcomes.{spell-row, spell-root, spell-nothing, Reached, Outcome, spelled-whole, offended, outcome}
+use Rattle.sheet.proofs.Outcomes.{spell-row, spell-root, spell-nothing, ReadSoFar, Outcome, spelled-whole, offended, outcome}
 use Rattle.sheet.proofs.StepLaws.{row-is-kept, root-is-kept, reads-on, sheet-too-long, sheet-opened}
 
 -- What the outcome says of a table and of a refusal.
 whole-of :
     {R P : ℕ} {bytes : List ℕ} {w : Reading} {rows : List Row} {roots : List ℕ} → Outcome R P bytes w → w ≡ table rows roots
-    → Reached R P bytes rows roots []
+    → ReadSoFar R P bytes rows roots []
 whole-of {R} {P} {bytes} {rows = rows} {roots = roots} (spelled-whole {rows = rs} {roots = qs} r) e =
     let same : rs ≡ rows = cc in
     let same-roots : qs ≡ roots = cc in
-    subst (λ (l : List Row). Reached R P bytes l roots []) same (subst (λ (l : List ℕ). Reached R P bytes rs l []) same-roots r)
+    subst (λ (l : List Row). ReadSoFar R P bytes l roots []) same (subst (λ (l : List ℕ). ReadSoFar R P bytes rs l []) same-roots r)
 whole-of (offended o) e = let z : _≡_ {A = ℕ} 0 1 = cc in absurd (omega arith)
 
 offence-of : {R P : ℕ} {bytes : List ℕ} {w : Reading} {why : Refusal} → Outcome R P bytes w → w ≡ refused why → Offence R P bytes why

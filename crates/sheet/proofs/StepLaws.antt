@@ -1,6 +1,6 @@
 -- What is done with a line, and why: each case of the definition once, with the tests that lead to it; and that reading goes on by it.
 -- Assumes nothing.
-use mathlib.Core.Path.{_≡_, refl, sym, ap, _∙_}
+use mathlib.Core.Path.{_≡_, refl, sym, ap}
 use mathlib.Core.List.{List, [], _∷_}
 use Prim.Native.Nat.{ℕ, zero, suc, _+_, _-_, _≤_, _<_, min}
 use native.Mathlib.Decide.{decLt}
@@ -10,7 +10,7 @@ use borrow.Author.Tests.{lt-ltb, le-ltb, le-leb, lt-leb}
 use Rattle.numbers.specs.Sizes.{Size, rowCeiling, sheetCeiling}
 use Rattle.numbers.specs.declared.Refusal.the-variants.{LongSheet}
 use Rattle.recipe.specs.declared.Row.{Row}
-use Rattle.table.specs.Reading.{table, refused}
+use Rattle.table.specs.Reading.{refused}
 use Rattle.sheet.specs.Lines.{Line, lineAt, noLine, rowLine, rootLine, wrongLine}
 use Rattle.sheet.specs.Reading.{Step, done, refuse, keepRow, keepRoot, wrongForm, noRoom, stepOf, afterStep, readLines, readSheet}
 use Rattle.sheet.proofs.LineLaws.{no-bytes}

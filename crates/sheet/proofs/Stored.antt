@@ -11,7 +11,7 @@ use Rattle.numbers.specs.declared.Refusal.{Refusal}
 use Rattle.recipe.specs.declared.Row.{Row}
 use Rattle.sheet.specs.Form.{spell}
 use Rattle.recipe.specs.Records.{kindsOf, xsOf, ysOf}
-use Rattle.table.specs.Reading.{Reading, table, refused, rowsOf, rootsOf, replyOf}
+use Rattle.table.specs.Reading.{rowsOf, rootsOf}
 use Rattle.table.specs.declared.Read.the-variants.{Stored, Refused}
 use Rattle.table.proofs.Replies.{table-of, nothing-of}
 use Rattle.sheet.specs.Reading.{readInto}

@@ -52,9 +52,9 @@ Every P [] = Unit
 Every P (a ∷ l) = P a × Every P l
 
 -- A table that a sheet can hold at this size, and so many places for rows and for roots with it.
-pub record Holdable (z : Size) (rowPlaces rootPlaces : ℕ) (rows : List Row) (roots : List ℕ) : Type 0 where
+pub record Holdable (z : Size) (rowsLent rootsLent : ℕ) (rows : List Row) (roots : List ℕ) : Type 0 where
   pub rowsShort : Every ShortRow rows
   pub rootsShort : Every Short roots
-  pub rowsFit : length rows ≤ min rowCeiling rowPlaces
-  pub rootsFit : length roots ≤ min (z .procs) rootPlaces
+  pub rowsFit : length rows ≤ min rowCeiling rowsLent
+  pub rootsFit : length roots ≤ min (z .procs) rootsLent
   pub sheetFits : length (spell rows roots) ≤ sheetCeiling

@@ -8,11 +8,11 @@ use Rattle.sheet.specs.Form.{keywords}
 
 -- A row line begins with R and a tab.
 abbrev pub rowMark : List ℕ
-rowMark = ascii "R" ++ (tab ∷ [])
+rowMark = ascii "R\t"
 
 -- A procedure line begins with P and a tab.
 abbrev pub rootMark : List ℕ
-rootMark = ascii "P" ++ (tab ∷ [])
+rootMark = ascii "P\t"
 
 -- The first of two fields that is of the right form.
 abbrev pub orElse : Field → Field → Field

@@ -1,4 +1,5 @@
--- A loop that counts from 0 to n: where each turn takes what holds at i to what holds at i + 1, and the turn at n leaves, the loop runs from what holds at 0. The turns left are what falls.
+-- A loop that counts from 0 to n: where each turn takes what holds at i to what holds at i + 1, and the turn at n leaves, the loop runs from what holds at 0.
+-- The turns left are what falls.
 -- Assumes nothing.
 use mathlib.Core.Path.{_≡_, sym, _∙_, subst}
 use Prim.Native.Nat.{ℕ, zero, suc, _+_, _<_}
@@ -13,7 +14,8 @@ use ghost.Atoms.{Atoms}
 use sound.Loop.{loop-rule}
 use types.Kit.{Given}
 
-module _ {M : Type 1} (𝓤 : URA M) (H : Heap 𝓤) (A : Atoms 𝓤) (W : Given 𝓤 H A) (𝓣 : Tables 𝓤 H) (E : Env 𝓤 H) (turn : Body) (Left : Out → SProp 𝓤) (n : ℕ) (At : ℕ → SProp 𝓤) where
+module _ {M : Type 1} (𝓤 : URA M) (H : Heap 𝓤) (A : Atoms 𝓤) (W : Given 𝓤 H A) (𝓣 : Tables 𝓤 H) (E : Env 𝓤 H) (turn : Body) (Left : Out → SProp 𝓤) (n : ℕ)
+    (At : ℕ → SProp 𝓤) where
   -- the code of a turn, which goes on in X or leaves the loop
   abbrev Turn : SProp 𝓤 → SProp 𝓤
   Turn X = Wp 𝓤 H (𝓣 .C) (𝓣 .Λ) E turn (afterTurn 𝓤 H X Left)

@@ -5,3 +5,5 @@ pub mod CountedLoop
 pub mod LocalArray
 pub mod RowMemory
 pub mod CopyCall
+pub mod Unique
+mod Examples

@@ -1,4 +1,5 @@
--- An array in a local's memory is its elements, one after the other, and back, since the memory of an array is that of its elements; and an array of zeros is made for nothing.
+-- An array in a local's memory is its elements, one after the other, and back, since the memory of an array is that of its elements; and an array of zeros is
+-- made for nothing.
 -- Assumes nothing.
 use mathlib.Core.Path.{_≡_, refl}
 use mathlib.Core.List.{List, [], _∷_}
@@ -56,8 +57,10 @@ module _ (R : RattleType) (vals : R .Denot → List Val) (tells : Tells R (Is R)
         → ent 𝓤 (sem 𝓤 H A (row R fullShare xs l 0)) (sep 𝓤 (H .at fullShare (arrayTy R n) l 0 (machine xs)) (sem 𝓤 H A (Array R n .own xs (machine xs ∷ []))))
     unfolding partOf
     elements-whole xs l e =
-        qed W (‵ (row R fullShare xs l 0) ∷ []) ∵ feqI ! ℕ (length xs) n e $ fjoin ! $ use1 W (‵ (partAt (Array R n) fullShare xs l 0)) (array-whole 𝓤 H A W R fullShare n xs l 0) $
-        fpick ! (λ vs. fsplit ! $ spelt ! (Array R n) (Is (Array R n)) (shows 𝓤 H A (Array R n)) (array-vals vals) (array-tells R vals tells n) fullShare xs vs l 0 $
+        qed W (‵ (row R fullShare xs l 0) ∷ []) ∵ feqI ! ℕ (length xs) n e $ fjoin ! $ use1 W (‵ (partAt (Array R n) fullShare xs l 0))
+        (array-whole 𝓤 H A W R fullShare n xs l 0) $
+        fpick ! (λ vs. fsplit ! $ spelt ! (Array R n) (Is (Array R n)) (shows 𝓤 H A (Array R n)) (array-vals vals)
+        (array-tells R vals tells n) fullShare xs vs l 0 $
         use1 W (‵ (fat fullShare (arrayTy R n) l 0 (machine xs))) (W .laws .raw-at fullShare (arrayTy R n) l 0 (machine xs)) $ done !)
 
 -- ---- an array of zeros. Its list and its machine value are shut, so that a walk does not write them out

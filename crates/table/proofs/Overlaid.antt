@@ -1,4 +1,5 @@
--- Storing elements one by one, from the first, gives the first of the new ones with the old ones after them, since each store leaves what stands before and after it.
+-- Storing elements one by one, from the first, gives the first of the new ones with the old ones after them, since each store leaves what stands before and
+-- after it.
 -- Assumes nothing.
 use mathlib.Core.Path.{_≡_, refl, sym, ap, _∙_}
 use mathlib.Core.List.{List, [], _∷_, _++_, map, append-assoc}

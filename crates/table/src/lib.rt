@@ -1,7 +1,6 @@
 // What keeps rows, for every reader: room and ceilings, what a reader comes to, rows and roots in arrays, laid into lent slices or records, and copied in.
 ghost use mathlib.Core.Path.{_≡_};
 ghost use Prim.Native.Nat.{min};
-ghost use lib.ListN.{length};
 ghost use Rattle.numbers.specs.Sizes.{ours, rowCeiling};
 ghost use Rattle.recipe.specs.Records.{kindsOf, xsOf, ysOf};
 ghost use Rattle.table.specs.Reading.{refused, rowCount, rootCount};
@@ -168,10 +167,10 @@ pub fn copy_in(rows: &[Row]) -> Columns
     let mut ys = [0u16; RowNumber::CEILING];
     let mut i: usize = 0;
     while i < n {
-        let row = rows[i];
-        kinds[i] = row.kind;
-        xs[i] = row.x;
-        ys[i] = row.y;
+        let lent = rows[i];
+        kinds[i] = lent.kind;
+        xs[i] = lent.x;
+        ys[i] = lent.y;
         i += 1;
     }
     Columns { kinds, xs, ys }

@@ -31,7 +31,8 @@ slice-aggregate-analyse-2 : tie.Need-slice-aggregate-analyse-2
 slice-aggregate-analyse-2 c = first-n _ _ (search needs) (omega arith)
 
 array-share-prefix-ys : tie.Need-array-share-prefix-ys
-array-share-prefix-ys c = let e : length (c .before .before .before .before .before .before .before .before .args .all .ys) ≡ rowCeiling = search needs in omega arith
+array-share-prefix-ys c = let e : length (c .before .before .before .before .before .before .before .before .args .all .ys) ≡ rowCeiling = search needs in
+    omega arith
 
 slice-aggregate-analyse-3 : tie.Need-slice-aggregate-analyse-3
 slice-aggregate-analyse-3 c = first-n _ _ (search needs) (omega arith)

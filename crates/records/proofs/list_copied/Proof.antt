@@ -19,19 +19,22 @@ returns c =
     λ rows e copied. too-many-listed ours rows (now (a .roots)) (now (a .matrix)) (omega arith) (now (a .bytes))
 
 array-share-prefix-kinds : tie.Need-array-share-prefix-kinds
-array-share-prefix-kinds c = let e : length (c .before .before .before .before .before .before .before .args .all .kinds) ≡ rowCeiling = search needs in omega arith
+array-share-prefix-kinds c = let e : length (c .before .before .before .before .before .before .before .args .all .kinds) ≡ rowCeiling = search needs in
+    omega arith
 
 slice-aggregate-list-pairs : tie.Need-slice-aggregate-list-pairs
 slice-aggregate-list-pairs c = first-n _ _ (search needs) (omega arith)
 
 array-share-prefix-xs : tie.Need-array-share-prefix-xs
-array-share-prefix-xs c = let e : length (c .before .before .before .before .before .before .before .before .args .all .xs) ≡ rowCeiling = search needs in omega arith
+array-share-prefix-xs c = let e : length (c .before .before .before .before .before .before .before .before .args .all .xs) ≡ rowCeiling = search needs in
+    omega arith
 
 slice-aggregate-list-pairs-2 : tie.Need-slice-aggregate-list-pairs-2
 slice-aggregate-list-pairs-2 c = first-n _ _ (search needs) (omega arith)
 
 array-share-prefix-ys : tie.Need-array-share-prefix-ys
-array-share-prefix-ys c = let e : length (c .before .before .before .before .before .before .before .before .before .args .all .ys) ≡ rowCeiling = search needs in omega arith
+array-share-prefix-ys c = let e : length (c .before .before .before .before .before .before .before .before .before .args .all .ys) ≡ rowCeiling = search
+    needs in omega arith
 
 slice-aggregate-list-pairs-3 : tie.Need-slice-aggregate-list-pairs-3
 slice-aggregate-list-pairs-3 c = first-n _ _ (search needs) (omega arith)

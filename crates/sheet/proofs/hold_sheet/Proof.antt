@@ -1,7 +1,8 @@
--- `hold_sheet` meets its contract: what is kept and the lines that are left make the whole reading. Each kept line takes a place, so the places that are left fall.
+-- `hold_sheet` meets its contract: what is kept and the lines that are left make the whole reading. Each kept line takes a place, so the places that are left
+-- fall.
 -- Assumes nothing.
 use borrow.Author.Needs.{needs}
-use mathlib.Core.Path.{_≡_, refl, sym, ap, _∙_, subst}
+use mathlib.Core.Path.{_≡_, sym, ap, _∙_, subst}
 use mathlib.Core.List.{List}
 use Prim.Native.Nat.{ℕ, _+_, _-_}
 use native.Mathlib.Omega.{arith}

@@ -1,4 +1,5 @@
--- `row_at` meets its contract: the three fields are read in order, and the first that is missing makes the line wrong. There are no kinds above 6, so a kind fits a byte.
+-- `row_at` meets its contract: the three fields are read in order, and the first that is missing makes the line wrong. There are no kinds above 6, so a kind
+-- fits a byte.
 -- Assumes nothing.
 use borrow.Author.Needs.{needs}
 use mathlib.Core.Path.{_≡_}
