@@ -8,7 +8,7 @@ use native.Mathlib.Nat.{suc-mul, zero-mul, mul-le-mul-right, le-of-suc-le-suc, e
 use native.Mathlib.Omega.{arith}
 use lib.ListN.{length, getD, take, drop, length-append, length-drop, replicate-append-replicate}
 use lib.Seq.{length-take-le, take-at, drop-at, drop-drop, drop-length, drop-append-le, drop-cons}
-use Rattle.numbers.specs.Sizes.{matrixWords, Size}
+use Rattle.numbers.specs.Sizes.{Size, ours, matrixWords}
 use Rattle.numbers.specs.General.{inTurn, laid}
 use Rattle.labels.specs.Sets.{none}
 use Rattle.labels.proofs.ChangedLaws.{words-take, words-drop}
@@ -24,9 +24,9 @@ pub blocks-none : (x : ℕ → WordSummary) → blocks zero x ≡ []
 unfolding inTurn
 blocks-none x = refl
 
--- a word of a part
-pub word-read : (s : List ℕ) (a b k : ℕ) → k ≡ a + b → k < length s → getD s k 0 ∷ [] ≡ take 1 (drop b (drop a s))
-word-read s a b k e h = sym (ap (take 1) (drop-drop b a s ∙ ap (λ (n : ℕ). drop n s) (sym e) ∙ drop-cons s k 0 h))
+-- a set of our size is one word of a part
+pub word-read : (s : List ℕ) (a b k : ℕ) → k ≡ a + b → k < length s → getD s k 0 ∷ [] ≡ take (ours .words) (drop b (drop a s))
+word-read s a b k e h = sym (ap (take (ours .words)) (drop-drop b a s ∙ ap (λ (n : ℕ). drop n s) (sym e) ∙ drop-cons s k 0 h))
 
 -- ---- the empty state
 

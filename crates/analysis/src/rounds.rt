@@ -88,7 +88,7 @@ pub(crate) fn run(matrix: &mut [u64], kinds: &[u8], xs: &[u16], ys: &[u16], root
     let mut k: u32 = 0;
     loop {
         round(&mut new, kinds, xs, ys, roots, &held);
-        if state::same(&new, &held, roots.len()) {
+        if state::repeats(&new, &held, roots.len()) {
             break;
         }
         held = new;

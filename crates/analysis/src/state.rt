@@ -22,8 +22,8 @@ pub(crate) fn empty() -> [u64; STATE_WORDS]
     [0u64; STATE_WORDS]
 }
 
-// Whether two states hold the same summaries of the first so many procedures.
-pub(crate) fn same(new: &[u64], held: &[u64], procs: usize) -> bool
+// Whether a state repeats another: the same summaries of the first so many procedures.
+pub(crate) fn repeats(new: &[u64], held: &[u64], procs: usize) -> bool
     requires { ⌜ procs ≤ ours .procs ⌝ }
     requires { ⌜ length (now new) ≡ stateWords ours ⌝ }
     requires { ⌜ length (now held) ≡ stateWords ours ⌝ }

@@ -31,10 +31,10 @@ entry c = c .before .before .before .before .before .before .before
 abbrev worked : tie.After-round Inv-loop μ-loop → tie.At-loop Inv-loop μ-loop
 worked c = c .before .before .before
 
-abbrev compared : tie.After-same Inv-loop μ-loop → tie.After-round Inv-loop μ-loop
+abbrev compared : tie.After-repeats Inv-loop μ-loop → tie.After-round Inv-loop μ-loop
 compared c = c .before .before .before .before
 
-abbrev copying : tie.After-held3 Inv-loop μ-loop → tie.After-same Inv-loop μ-loop
+abbrev copying : tie.After-held3 Inv-loop μ-loop → tie.After-repeats Inv-loop μ-loop
 copying c = c .before .before .before
 
 -- The state of the last turn begins with a whole matrix.
@@ -59,14 +59,14 @@ slice-aggregate-round-2 c = sym (state-size (c .before .before .loop .inv))
 round-requires : tie.Need-round-requires Inv-loop μ-loop
 round-requires c κs = turn (c .before .before .loop .inv)
 
-slice-aggregate-same : tie.Need-slice-aggregate-same Inv-loop μ-loop
-slice-aggregate-same c = let r = c .before .before in sym (r .round .kept .0 ∙ room-size (worked r .loop .inv))
+slice-aggregate-repeats : tie.Need-slice-aggregate-repeats Inv-loop μ-loop
+slice-aggregate-repeats c = let r = c .before .before in sym (r .round .kept .0 ∙ room-size (worked r .loop .inv))
 
-slice-aggregate-same-2 : tie.Need-slice-aggregate-same-2 Inv-loop μ-loop
-slice-aggregate-same-2 c = sym (state-size (worked (c .before .before .before) .loop .inv))
+slice-aggregate-repeats-2 : tie.Need-slice-aggregate-repeats-2 Inv-loop μ-loop
+slice-aggregate-repeats-2 c = sym (state-size (worked (c .before .before .before) .loop .inv))
 
-same-requires : tie.Need-same-requires Inv-loop μ-loop
-same-requires c κs =
+repeats-requires : tie.Need-repeats-requires Inv-loop μ-loop
+repeats-requires c κs =
     let r = c .before .before .before in
     let g = worked r .loop .inv in
     (omega (arith, few-procs g), (r .round .kept .0 ∙ room-size g, state-size g))
@@ -75,18 +75,18 @@ add-k : tie.Need-add-k Inv-loop μ-loop
 add-k c =
     let r = compared (c .before) in
     let g = worked r .loop .inv in
-    omega (arith, not-yet g (r .round .ensures) _ (c .before .same .ensures) (c .if1 .left), few-procs g)
+    omega (arith, not-yet g (r .round .ensures) _ (c .before .repeats .ensures) (c .if1 .left), few-procs g)
 
 loop-less : tie.Need-loop-less Inv-loop μ-loop
 loop-less c =
     let r = compared (c .before) in
-    let h = not-yet (worked r .loop .inv) (r .round .ensures) _ (c .before .same .ensures) (c .if1 .left) in
+    let h = not-yet (worked r .loop .inv) (r .round .ensures) _ (c .before .repeats .ensures) (c .if1 .left) in
     omega arith
 
 loop-again : tie.Need-loop-again Inv-loop μ-loop
 loop-again c =
     let r = compared (c .before) in
-    rounds-go-on (worked r .loop .inv) (r .round .ensures) _ (c .before .same .ensures) (c .if1 .left)
+    rounds-go-on (worked r .loop .inv) (r .round .ensures) _ (c .before .repeats .ensures) (c .if1 .left)
 
 array-share-prefix-held : tie.Need-array-share-prefix-held Inv-loop μ-loop
 array-share-prefix-held c = omega (arith, state-size (worked (compared (c .before .before)) .loop .inv))
@@ -108,7 +108,7 @@ returns c =
     let l = worked r in
     let a = entry (l .before) in
     let g = l .loop .inv in
-    let e = rounds-end g (r .round .ensures) _ (s .same .ensures) (copied .before .before .before .if1 .taken) in (
+    let e = rounds-end g (r .round .ensures) _ (s .repeats .ensures) (copied .before .before .before .if1 .taken) in (
       e,
       copied .copy .ensures
           ∙ copied-laid w (now (a .args .matrix)) (take (matrixWords w) (l .loop .held)) (a .pre .1) (matrix-inside l)
@@ -127,9 +127,9 @@ run-spec =
     slice-aggregate-round
     slice-aggregate-round-2
     round-requires
-    slice-aggregate-same
-    slice-aggregate-same-2
-    same-requires
+    slice-aggregate-repeats
+    slice-aggregate-repeats-2
+    repeats-requires
     add-k
     loop-less
     loop-again

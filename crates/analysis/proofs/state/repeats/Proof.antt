@@ -1,4 +1,4 @@
--- `state::same` meets its contract: from the highest word down, the states are alike as long as no word differs.
+-- `state::repeats` meets its contract: from the highest word down, the states are alike as long as no word differs.
 -- Assumes nothing.
 use mathlib.Core.Path.{_≡_, refl, sym, ap, _∙_}
 use Prim.Native.Nat.{ℕ, _*_, _≤_}
@@ -8,8 +8,8 @@ use Rattle.numbers.specs.Sizes.{ours}
 use Rattle.labels.specs.Words.{alike}
 use Rattle.labels.proofs.AlikeLaws.{alike-down, differs-down, alike-none}
 use Rattle.analysis.specs.Inner.{blockWords, stateWords}
-use Rattle.analysis.proofs.state.same.Statement.{statement}
-use Rattle.analysis.proofs.state.same.Tie as tie
+use Rattle.analysis.proofs.state.repeats.Statement.{statement}
+use Rattle.analysis.proofs.state.repeats.Tie as tie
 
 abbrev Inv-loop : tie.InvT-loop
 Inv-loop new held procs i₀ i = (i ≤ stateWords ours) × (alike (procs * blockWords (ours .words)) new held ≡ alike i new held)
@@ -58,8 +58,8 @@ returns-2 c =
     let done : l .i ≡ 0 = omega arith in
     sym (l .inv .1 ∙ ap (λ (k : ℕ). alike k (now (a .new)) (now (a .held))) done ∙ alike-none (now (a .new)) (now (a .held)))
 
-pub same-spec : {M : Type 1} → statement M
-same-spec =
+pub repeats-spec : {M : Type 1} → statement M
+repeats-spec =
     tie.close
     (tie.spec
     Inv-loop
