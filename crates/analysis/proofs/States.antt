@@ -75,15 +75,15 @@ module _ (w : ℕ) where
         ∙ sym (suc-mul n (blockWords w))
 
     -- The blocks before procedure f's, its own, and the rest.
-    record Around (n f : ℕ) : Type 0 where
+    record Parted (n f : ℕ) : Type 0 where
       rest : List ℕ
       parts : blocks n x ≡ blocks f x ++ (block (x f) ++ rest)
 
-    around : (n f : ℕ) → f < n → Around n f
-    around zero f h = absurd (not-suc-le-zero h)
-    around (suc n) f h = either (eq-or-lt-of-le (le-of-suc-le-suc h)) (λ l. around n f l)
+    parted : (n f : ℕ) → f < n → Parted n f
+    parted zero f h = absurd (not-suc-le-zero h)
+    parted (suc n) f h = either (eq-or-lt-of-le (le-of-suc-le-suc h)) (λ l. parted n f l)
       where
-        either : (f ≡ n) ⊎ (f < n) → (f < n → Around n f) → Around (suc n) f
+        either : (f ≡ n) ⊎ (f < n) → (f < n → Parted n f) → Parted (suc n) f
         either (inl e) before =
             record {
               rest = [];
@@ -101,7 +101,7 @@ module _ (w : ℕ) where
     -- a state of blocks holds them
     pub held-blocks : (n : ℕ) → ((f : ℕ) → f < n → Shaped w (x f)) → (f : ℕ) → f < n → heldFor w (blocks n x) f ≡ x f
     held-blocks n s f h =
-        let a = around n f h in
+        let a = parted n f h in
         ap (summaryIn w)
         (ap (drop (f * blockWords w)) (a .parts)
         ∙ drop-at (blocks f x) (block (x f) ++ a .rest) (f * blockWords w) (length-blocks f (λ g l. s g (omega arith))))
