@@ -17,14 +17,14 @@ abbrev calling : Program
 calling = call 1 ∷ (step 5 ∷ [])
 
 -- round 1 reads round 0: main has no label yet
-one-round-a-call : after (ours .words) calling 1 0 .L ≡ none (ours .words)
+one-round-a-call : (w : ℕ) → after w calling 1 0 .L ≡ none w
 unfolding after
-one-round-a-call = refl
+one-round-a-call w = refl
 
 -- round 2 reads round 1: main has its callee's
-two-rounds-a-call : after (ours .words) calling 2 0 .L ≡ single (ours .words) 5
+two-rounds-a-call : (w : ℕ) → after w calling 2 0 .L ≡ single w 5
 unfolding after
-two-rounds-a-call = refl
+two-rounds-a-call w = refl
 
 -- what runs together inside a wait is a pair of the whole
 a-wait-keeps-pairs : marked (ours .words) (wordsOf (ours .words) (λ f. emptyWords (ours .words)) (finish (seq (async (step 0)) (step 1))) .M) 0 1 ≡ 1

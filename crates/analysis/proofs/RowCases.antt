@@ -15,7 +15,7 @@ use Rattle.recipe.specs.Inner.{rowsAlone, OfAdmitted}
 use Rattle.recipe.specs.Statements.{statementAt}
 use Rattle.recipe.proofs.AloneLaws.{calls-below, first-smaller, second-smaller, loop-smaller, async-smaller, finish-smaller}
 use Rattle.recipe.proofs.AloneLaws.{alone-skip, alone-step, alone-seq, alone-loop, alone-async, alone-finish, alone-call}
-use Rattle.analysis.specs.Summaries.{WordSummary, followedWords, loopedWords, spawnedWords, waitedWords, wordsOf}
+use Rattle.analysis.specs.Summaries.{WordSummary, emptyWords, followedWords, loopedWords, spawnedWords, waitedWords, wordsOf}
 use Rattle.analysis.specs.Inner.{Ready, markedInto, stateWords, heldFor, rowWords}
 use Rattle.analysis.proofs.Shape.{Sized, Shaped, by-parts, sized-joined, shaped-called}
 use Rattle.analysis.proofs.Into.{crossed-into, merged-into, self-into, none-into, cleared-into}
@@ -104,8 +104,9 @@ module _ {z : Size} {pairs kinds xs ys held : List ℕ} {row : ℕ} (a : Standin
     by-statement : (u : Stmt) → at row ≡ u → s ≡ markedInto w pairs (wordsOf w (heldFor w held) u) → s ≡ markedInto w pairs (of row)
     by-statement u e h = h ∙ sym (ap (λ (v : Stmt). markedInto w pairs (wordsOf w (heldFor w held) v)) e)
 
-    pub skip-row : getD kinds row 0 ≡ 0 → s .M ≡ pairs → s .O ≡ none w → s .L ≡ none w → s ≡ markedInto w pairs (of row)
-    skip-row k m o l = by-statement skip (alone-skip table row there k) (by-parts (m ∙ sym (none-into w whole)) o l)
+    pub skip-row :
+        getD kinds row 0 ≡ 0 → s .M ≡ pairs → record { M = none (matrixWords w); O = s .O; L = s .L } ≡ emptyWords w → s ≡ markedInto w pairs (of row)
+    skip-row k m e = by-statement skip (alone-skip table row there k) (by-parts (m ∙ sym (none-into w whole)) (ap O e) (ap L e))
 
     pub step-row : getD kinds row 0 ≡ 1 → s .M ≡ pairs → s .O ≡ none w → s .L ≡ single w x → s ≡ markedInto w pairs (of row)
     step-row k m o l = by-statement (step x) (alone-step table row there k) (by-parts (m ∙ sym (none-into w whole)) o l)

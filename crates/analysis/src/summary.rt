@@ -1,8 +1,10 @@
 // The labels that may still run when a statement has completed, and the labels that run in it.
 ghost use mathlib.Core.Path.{_≡_};
 ghost use mathlib.Core.List.{_∷_, []};
-ghost use Rattle.numbers.specs.Sizes.{ours};
+ghost use Rattle.numbers.specs.Sizes.{ours, matrixWords};
 ghost use Rattle.labels.specs.Sets.{none, single, union};
+ghost use Rattle.analysis.specs.Summaries.{emptyWords};
+ghost use Rattle.analysis.specs.Inner.{summaryWords};
 use labels::Label;
 
 // O, what may still run, and L, what runs: each a set of labels as one word. The pairs, M, stand in a lent matrix.
@@ -12,10 +14,9 @@ pub struct LabelSummary {
 }
 
 impl LabelSummary {
-    // No label.
+    // The empty summary: no label, and where no pair is marked no pair.
     pub(crate) fn empty() -> LabelSummary
-        ensures stays { λ r. ⌜ r .o ∷ [] ≡ none (ours .words) ⌝ }
-        ensures runs { λ r. ⌜ r .l ∷ [] ≡ none (ours .words) ⌝ }
+        ensures { λ r. ⌜ summaryWords r (none (matrixWords (ours .words))) ≡ emptyWords (ours .words) ⌝ }
     {
         LabelSummary { o: 0, l: 0 }
     }

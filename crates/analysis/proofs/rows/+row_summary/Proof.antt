@@ -164,7 +164,7 @@ module _ (t : ℕ) where
   -- ---- what each kind hands back
 
   skip-returns : lts.Need-returns callees pre row-summary.Post
-  skip-returns c = skip-row (standing (c .before .before)) (c .before .match .keys1) refl (c .empty .ensures .0) (c .empty .ensures .1)
+  skip-returns c = skip-row (standing (c .before .before)) (c .before .match .keys1) refl (c .empty .ensures)
 
   step-returns : lts.Need-returns-2 callees pre row-summary.Post
   step-returns c = step-row (standing (c .before .before)) (c .before .match .keys2) refl (c .step .ensures .0) (c .step .ensures .1)
