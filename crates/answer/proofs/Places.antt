@@ -21,7 +21,7 @@ use Rattle.recipe.specs.declared.Row.{Row}
 use Rattle.table.specs.Reading.{Reading, table, refused}
 use Rattle.sheet.specs.Form.{Every}
 use Rattle.sheet.specs.Lines.{Line, lineAt}
-use Rattle.sheet.specs.Reading.{Step, stepOf, afterStep, readLines, readSheet}
+use Rattle.sheet.specs.Reading.{Step, afterStep, readLines, readSheet}
 use Rattle.sheet.proofs.StepLaws.{Stepped, ends, misformed, late, row-lacks, root-lacks, row-kept, root-kept, stepped}
 
 -- ---- the reader

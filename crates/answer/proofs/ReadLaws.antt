@@ -25,10 +25,10 @@ pub record Begins (new l : List ℕ) : Type 0 where
   pub over : l ≡ laid new old
 
 module _ {new l : List ℕ} {n : ℕ} (b : Begins new l) (counted : n ≡ length new) where
-  front-within : n ≤ length l
+  pub front-within : n ≤ length l
   front-within = omega (arith, counted, ap length (b .over), length-append new (drop (length new) (b .old)))
 
-  front-taken : take n l ≡ new
+  pub front-taken : take n l ≡ new
   front-taken = ap (take n) (b .over) ∙ take-at new (drop (length new) (b .old)) n (sym counted)
 
 -- ---- what the reply says of a reading

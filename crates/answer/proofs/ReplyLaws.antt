@@ -6,9 +6,7 @@ use Prim.Native.Nat.{ℕ, _≤_, _<_}
 use lib.ListN.{length}
 use Rattle.numbers.specs.General.{laid}
 use Rattle.numbers.specs.Sizes.{Size, matrixWords}
-use Rattle.numbers.specs.declared.Refusal.{Refusal}
 use Rattle.numbers.specs.declared.Refusal.the-variants.{LongListing}
-use Rattle.recipe.specs.Records.{tableOfRows}
 use Rattle.recipe.specs.Rules.{judged, judgedWith, admitted}
 use Rattle.recipe.specs.Statements.{programOf}
 use Rattle.recipe.specs.Tables.{Table}

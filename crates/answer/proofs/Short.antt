@@ -11,7 +11,7 @@ use Rattle.numbers.specs.General.{laid}
 use Rattle.numbers.specs.Refusals.{refusalNumber, refusalPlace}
 use Rattle.numbers.specs.Sizes.{ours, rowCeiling}
 use Rattle.numbers.specs.declared.Refusal.{Refusal}
-use Rattle.numbers.specs.declared.Refusal.the-variants.{Sizes, ShortMatrix, UnknownKind, WrongOperand, NoSuchRow, UsedAgain, Unused, LongSheet, WrongForm, NoRoom, LongListing}
+use Rattle.numbers.specs.declared.Refusal.the-variants as why
 use Rattle.text.proofs.SpelledLaws.{spelled-short, spelled-four}
 use Rattle.recipe.specs.Records.{tableOfRows}
 use Rattle.recipe.specs.Rules.{judged}
@@ -33,17 +33,17 @@ use Rattle.answer.proofs.LineLaws.{length-line}
 use Rattle.answer.proofs.Places.{ReadWithin, line-within, JudgedWithin, place-within}
 
 number-short : (r : Refusal) → refusalNumber r < 100
-number-short Sizes = lit< tt
-number-short ShortMatrix = lit< tt
-number-short (UnknownKind row) = lit< tt
-number-short (WrongOperand row) = lit< tt
-number-short (NoSuchRow proc) = lit< tt
-number-short (UsedAgain row) = lit< tt
-number-short (Unused row) = lit< tt
-number-short LongSheet = lit< tt
-number-short (WrongForm line) = lit< tt
-number-short (NoRoom line) = lit< tt
-number-short LongListing = lit< tt
+number-short why.Sizes = lit< tt
+number-short why.ShortMatrix = lit< tt
+number-short (why.UnknownKind row) = lit< tt
+number-short (why.WrongOperand row) = lit< tt
+number-short (why.NoSuchRow proc) = lit< tt
+number-short (why.UsedAgain row) = lit< tt
+number-short (why.Unused row) = lit< tt
+number-short why.LongSheet = lit< tt
+number-short (why.WrongForm line) = lit< tt
+number-short (why.NoRoom line) = lit< tt
+number-short why.LongListing = lit< tt
 
 -- Every place that a refusal of ours names lies within this.
 abbrev placeCeiling : ℕ
@@ -58,7 +58,9 @@ line-short r h =
       spelled-four (refusalPlace r) (omega arith),
     )
 
-judged-short : (t : Table) (j : Judged) → judged ours t ≡ j → rows t + procs t ≤ placeCeiling → JudgedWithin (rows t + procs t) j → length (answerBy ours t j) ≤ longestListing
+judged-short :
+    (t : Table) (j : Judged) → judged ours t ≡ j → rows t + procs t ≤ placeCeiling → JudgedWithin (rows t + procs t) j
+    → length (answerBy ours t j) ≤ longestListing
 judged-short t Admitted e h p = recipe-listing-short t e
 judged-short t (Refused r) e h p = line-short r (le-trans p h)
 

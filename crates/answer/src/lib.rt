@@ -20,16 +20,20 @@ use table::Read;
 fn line_length(refusal: Refusal) -> usize
     ensures { λ r. ⌜ r ≡ length (refusalLine refusal) ⌝ }
 {
-    text::digits(refusal.number() as usize) + text::digits(refusal.place() as usize) + 10
+    let number = refusal.number() as usize;
+    let place = refusal.place() as usize;
+    text::digits(number) + text::digits(place) + 10
 }
 
 // Puts a refusal's line at the front of the bytes.
 fn put_line(bytes: &mut [u8], refusal: Refusal) -> usize
     ensures { λ r. ⌜ Put (now (bytes .entry)) 0 (refusalLine refusal) (now (bytes .exit)) r ⌝ }
 {
+    let number = refusal.number() as usize;
+    let place = refusal.place() as usize;
     let at = text::put_text(bytes, 0, b"refused", b'\t');
-    let at = text::put_number(bytes, at, refusal.number() as usize, b'\t');
-    text::put_number(bytes, at, refusal.place() as usize, b'\n')
+    let at = text::put_number(bytes, at, number, b'\t');
+    text::put_number(bytes, at, place, b'\n')
 }
 
 // Answers with a refusal's line.

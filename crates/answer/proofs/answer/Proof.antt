@@ -12,27 +12,33 @@ use borrow.Author.Needs.{needs}
 use Rattle.answer.proofs.answer.Statement.{statement}
 use Rattle.answer.proofs.answer.Tie as tie
 
--- What reading the sheet comes to.
-abbrev reading : tie.After-read-sheet → Reading
-reading c = readSheet ours rowCeiling (ours .procs) (now (c .before .before .before .before .before .before .before .args .sheet))
+-- From where the arrays are back from the reader to the reading, from there to the first array, and from there to the entry.
+abbrev read : tie.After-roots2 → tie.After-read-sheet
+read c = c .before .before .before .before
 
--- From where a table is answered back to its reading.
+abbrev arrays : tie.After-read-sheet → tie.After-kinds
+arrays c = c .before .before .before .before
+
+abbrev start : tie.After-kinds → tie.Start
+start c = c .before .before .before
+
+-- From where a table is answered back to where it was stored.
 abbrev at-table : tie.After-answer-table-arg → tie.After-rows
 at-table c = c .before .before
 
-abbrev read-before : tie.After-rows → tie.After-read-sheet
-read-before c = c .before .before .before .before .before .before
+abbrev answered : tie.After-slice-known3 → tie.After-roots3
+answered c = c .before .before .before
 
--- From a refusal back to the reading.
-abbrev read-refused : tie.After-refusal → tie.After-read-sheet
-read-refused c = c .before .before .before .before .before .before
+-- What reading the sheet comes to.
+abbrev reading : tie.After-read-sheet → Reading
+reading c = readSheet ours rowCeiling (ours .procs) (now (start (arrays c) .args .sheet))
 
 -- What the reader left, where it stored a table.
 held :
-    (c : tie.After-rows) → let left = read-before c .read-sheet .last .1 in
-    StoredTable (reading (read-before c)) (c .rows .given .0 .0) (c .rows .given .0 .1 .0) (left .0) (left .1 .0) (left .1 .1 .0) (left .1 .1 .1 .0)
+    (c : tie.After-rows) → let left = read (c .before .before) .read-sheet .last .1 in
+    StoredTable (reading (read (c .before .before))) (c .rows .given .0 .0) (c .rows .given .0 .1 .0) (left .0) (left .1 .0) (left .1 .1 .0) (left .1 .1 .1 .0)
 held c =
-    let given = read-before c .read-sheet .ensures in
+    let given = read (c .before .before) .read-sheet .ensures in
     record {
       reply = sym (given .0) ∙ c .rows .given .1;
       inKinds = record { old = _; over = given .1 .0 };
@@ -107,7 +113,8 @@ returns : tie.Need-returns
 unfolding answerTo
 returns c =
     let met = c .before .before .before .before .before in
-    refused-replied ours (reading (read-refused met)) (sym (read-refused met .read-sheet .ensures .0) ∙ met .refusal .given .1) (c .before .before .refuse .ensures)
+    let said = read (met .before .before) in
+    refused-replied ours (reading said) (sym (said .read-sheet .ensures .0) ∙ met .refusal .given .1) (c .before .before .refuse .ensures)
 
 same-length-2 : tie.Need-same-length-2
 same-length-2 c = search needs
@@ -115,7 +122,7 @@ same-length-2 c = search needs
 returns-2 : tie.Need-returns-2
 unfolding answerTo
 returns-2 c =
-    table-replied (held (at-table (c .before .before .before .before .before .before .before))) ours (c .before .before .answer-table .ensures)
+    table-replied (held (at-table (answered c .before .before .before .before))) ours (c .before .before .answer-table .ensures)
 
 pub answer-spec : {M : Type 1} → statement M
 answer-spec =

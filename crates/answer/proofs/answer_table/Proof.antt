@@ -1,6 +1,6 @@
 -- `answer_table` meets its contract: what the judge says of the table picks the text.
 -- Assumes nothing.
-use mathlib.Core.Path.{_≡_, sym, _∙_}
+use mathlib.Core.Path.{sym, _∙_}
 use denote.Ref.{now}
 use Rattle.numbers.specs.Sizes.{ours}
 use Rattle.recipe.specs.Tables.{Table, tableOf}
@@ -9,10 +9,13 @@ use borrow.Author.Needs.{needs}
 use Rattle.answer.proofs.answer_table.Statement.{statement}
 use Rattle.answer.proofs.answer_table.Tie as tie
 
--- The table that is answered, as it is when the judge has spoken.
-abbrev table : tie.After-judge → Table
-table c =
-    let a = c .before .before .before .before .before .before .args in tableOf (now (a .kinds)) (now (a .xs)) (now (a .ys)) (now (a .roots))
+-- The table that is answered.
+abbrev table : tie.Start → Table
+table s = tableOf (now (s .args .kinds)) (now (s .args .xs)) (now (s .args .ys)) (now (s .args .roots))
+
+-- From where the slices are known back to the entry.
+abbrev start : tie.After-shared-slice-known4 → tie.Start
+start c = c .before .before .before .before .before
 
 judge-requires : tie.Need-judge-requires
 judge-requires c κs = search needs
@@ -36,7 +39,8 @@ same-length c = search needs
 returns : tie.Need-returns
 returns c =
     let met = c .before .before .before .before .before in
-    judged-reply ours (table (met .before .before)) (sym (met .before .before .judge .ensures) ∙ met .refusal .given .1) (c .before .before .refuse .ensures)
+    let said = met .before .before in
+    judged-reply ours (table (start (said .before))) (sym (said .judge .ensures) ∙ met .refusal .given .1) (c .before .before .refuse .ensures)
 
 same-length-2 : tie.Need-same-length-2
 same-length-2 c = search needs
@@ -44,7 +48,8 @@ same-length-2 c = search needs
 returns-2 : tie.Need-returns-2
 returns-2 c =
     let met = c .before .before .before .before in
-    judged-reply ours (table (met .before .before)) (sym (met .before .before .judge .ensures) ∙ met .enum-told .given .1) (c .before .before .list .ensures)
+    let said = met .before .before in
+    judged-reply ours (table (start (said .before))) (sym (said .judge .ensures) ∙ met .enum-told .given .1) (c .before .before .list .ensures)
 
 pub answer-table-spec : {M : Type 1} → statement M
 answer-table-spec =

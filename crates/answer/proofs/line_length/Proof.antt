@@ -9,17 +9,17 @@ use Rattle.answer.proofs.line_length.Tie as tie
 number-requires : tie.Need-number-requires
 number-requires c κs = search needs
 
-cast-digits : tie.Need-cast-digits
-cast-digits c = search needs
-
-digits-requires : tie.Need-digits-requires
-digits-requires c κs = search needs
+cast-number : tie.Need-cast-number
+cast-number c = search needs
 
 place-requires : tie.Need-place-requires
 place-requires c κs = search needs
 
-cast-digits-2 : tie.Need-cast-digits-2
-cast-digits-2 c = search needs
+cast-place : tie.Need-cast-place
+cast-place c = search needs
+
+digits-requires : tie.Need-digits-requires
+digits-requires c κs = search needs
 
 digits-requires-2 : tie.Need-digits-requires-2
 digits-requires-2 c κs = search needs
@@ -32,10 +32,11 @@ add-result-2 c = search needs
 
 returns : tie.Need-returns
 returns c =
+    let known = c .before .before in
     omega (
       arith,
-      length-line (c .before .before .before .before .args .refusal) (c .before .before .before .number .ensures) (c .before .place .ensures),
-      c .before .before .digits .ensures .0,
+      length-line (known .before .before .args .refusal) (known .before .number .ensures) (known .place .ensures),
+      c .before .digits .ensures .0,
       c .digits2 .ensures .0,
     )
 
@@ -44,10 +45,10 @@ line-length-spec =
     tie.close
     (tie.spec
     number-requires
-    cast-digits
-    digits-requires
+    cast-number
     place-requires
-    cast-digits-2
+    cast-place
+    digits-requires
     digits-requires-2
     add-result
     add-result-2

@@ -9,6 +9,16 @@ use borrow.Author.Needs.{needs}
 use Rattle.answer.proofs.list.Statement.{statement}
 use Rattle.answer.proofs.list.Tie as tie
 
+-- From the return back to the call, from there to where the slices are known, and from there to the entry.
+abbrev call : tie.After-slice-known2 → tie.After-list-pairs
+call c = c .before .before .before
+
+abbrev from-call : tie.After-list-pairs → tie.After-shared-slice-known4
+from-call c = c .before .before .before
+
+abbrev start : tie.After-shared-slice-known4 → tie.Start
+start c = c .before .before .before .before .before
+
 slice-aggregate-list-pairs : tie.Need-slice-aggregate-list-pairs
 slice-aggregate-list-pairs c = search needs
 
@@ -20,10 +30,10 @@ same-length c = search needs
 
 returns : tie.Need-returns
 returns c =
-    let s = c .before .before .before .before .before .before .before .before .before .before .before in
+    let s = start (from-call (call c)) in
     let a = s .args in
     let t = tableOf (now (a .kinds)) (now (a .xs)) (now (a .ys)) (now (a .roots)) in
-    let given = c .before .before .before .list-pairs .ensures in
+    let given = call c .list-pairs .ensures in
     listing-replied ours t (matrixWords (ours .words)) (s .pre) (le-refl (matrixWords (ours .words))) (now (a .bytes)) (given .0) (given .1 .1)
 
 pub list-spec : {M : Type 1} → statement M

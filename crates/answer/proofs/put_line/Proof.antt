@@ -5,15 +5,27 @@ use borrow.Author.Needs.{needs}
 use Rattle.answer.proofs.put_line.Statement.{statement}
 use Rattle.answer.proofs.put_line.Tie as tie
 
--- From the return back to the number's field, from there to the text, and from there to the entry.
-abbrev from-place : tie.After-slice-known4 → tie.After-put-number
-from-place c = c .before .before .before .before .before .before .before
+-- From the last field back to the one before it, from there to the first, and from there to where number and place are known.
+abbrev from-place : tie.After-put-number2 → tie.After-put-number
+from-place c = c .before .before .before .before
 
 abbrev from-number : tie.After-put-number → tie.After-put-text
-from-number c = c .before .before .before .before .before
+from-number c = c .before .before .before .before
 
-abbrev from-text : tie.After-put-text → tie.Start
-from-text c = c .before .before .before .before
+abbrev from-text : tie.After-put-text → tie.After-place
+from-text c = c .before .before .before
+
+number-requires : tie.Need-number-requires
+number-requires c κs = search needs
+
+cast-number : tie.Need-cast-number
+cast-number c = search needs
+
+place-requires : tie.Need-place-requires
+place-requires c κs = search needs
+
+cast-place : tie.Need-cast-place
+cast-place c = search needs
 
 slice-aggregate-put-text : tie.Need-slice-aggregate-put-text
 slice-aggregate-put-text c = search needs
@@ -21,20 +33,8 @@ slice-aggregate-put-text c = search needs
 put-text-requires : tie.Need-put-text-requires
 put-text-requires c κs = search needs
 
-number-requires : tie.Need-number-requires
-number-requires c κs = search needs
-
-cast-put-number : tie.Need-cast-put-number
-cast-put-number c = search needs
-
 put-number-requires : tie.Need-put-number-requires
 put-number-requires c κs = search needs
-
-place-requires : tie.Need-place-requires
-place-requires c κs = search needs
-
-cast-put-number-2 : tie.Need-cast-put-number-2
-cast-put-number-2 c = search needs
 
 put-number-requires-2 : tie.Need-put-number-requires-2
 put-number-requires-2 c κs = search needs
@@ -44,22 +44,26 @@ same-length c = search needs
 
 returns : tie.Need-returns
 returns c =
-    line-put (from-text (from-number (from-place c)) .args .refusal) (from-place c .before .number .ensures) (c .before .before .before .place .ensures)
-    (from-number (from-place c) .put-text .ensures)
-    (from-place c .put-number .ensures)
-    (c .before .before .put-number2 .ensures)
+    let third = c .before .before in
+    let second = from-place third in
+    let first = from-number second in
+    let known = from-text first in
+    line-put (known .before .before .before .args .refusal) (known .before .number .ensures) (known .place .ensures)
+    (first .put-text .ensures)
+    (second .put-number .ensures)
+    (third .put-number2 .ensures)
 
 pub put-line-spec : {M : Type 1} → statement M
 put-line-spec =
     tie.close
     (tie.spec
+    number-requires
+    cast-number
+    place-requires
+    cast-place
     slice-aggregate-put-text
     put-text-requires
-    number-requires
-    cast-put-number
     put-number-requires
-    place-requires
-    cast-put-number-2
     put-number-requires-2
     same-length
     returns)

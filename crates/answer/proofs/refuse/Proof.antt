@@ -1,6 +1,5 @@
 -- `refuse` meets its contract: the line is put where it fits, and else nothing is.
 -- Assumes nothing.
-use mathlib.Core.Path.{refl}
 use native.Mathlib.Omega.{arith}
 use Prim.Native.Nat.{_≤_}
 use denote.Ref.{now}
@@ -30,7 +29,8 @@ returns-2 : tie.Need-returns-2
 returns-2 c =
     let found = c .before .before .before .before .before in
     let a = found .before .before .args in
-    let room : length (refusalLine (a .refusal)) ≤ length (now (a .bytes)) = omega (arith, found .line-length .ensures, c .before .before .before .before .if1 .left) in
+    let room : length (refusalLine (a .refusal)) ≤ length (now (a .bytes)) =
+    omega (arith, found .line-length .ensures, c .before .before .before .before .if1 .left) in
     with-room (refusalLine (a .refusal)) (now (a .bytes)) room (found .line-length .ensures) (put-front room (c .before .before .put-line .ensures))
 
 pub refuse-spec : {M : Type 1} → statement M

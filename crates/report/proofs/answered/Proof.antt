@@ -1,17 +1,17 @@
 -- `answered` meets its contract: with room for the longest listing the answer is never refused, and stands at the front of the bytes.
 -- Assumes nothing.
-use mathlib.Core.Path.{_≡_, refl, sym, ap, _∙_}
+use mathlib.Core.Path.{_≡_, sym, ap, _∙_}
 use mathlib.Core.List.{List}
 use Prim.Native.Nat.{ℕ}
 use native.Mathlib.Omega.{arith}
 use denote.Ref.{now}
-use lib.ListN.{length, take, drop, length-append}
-use lib.Seq.{take-at}
+use lib.ListN.{length, take}
 use Rattle.numbers.specs.General.{laid}
 use Rattle.numbers.specs.Sizes.{ours}
 use Rattle.listing.specs.declared.Listed.the-variants as reply
 use Rattle.io.specs.Counts.{Counts}
 use Rattle.answer.specs.Answer.{answerTo}
+use Rattle.answer.proofs.ReadLaws.{Begins, front-within, front-taken}
 use Rattle.answer.proofs.Short.{answer-stands}
 use borrow.Author.Needs.{needs}
 use Rattle.report.proofs.answered.Statement.{statement}
@@ -23,8 +23,8 @@ front-given :
     → (take n new ≡ text) × Counts n new
 front-given text old {n} {new} e f =
     let counted : n ≡ length text = cc in
-    let front : take n new ≡ text = ap (take n) f ∙ take-at text (drop (length text) old) n (sym counted) in
-    (front, (omega (arith, counted, ap length f, length-append text (drop (length text) old)), counted ∙ sym (ap length front)))
+    let b : Begins text new = record { old = old; over = f } in
+    (front-taken b counted, (front-within b counted, counted ∙ sym (ap length (front-taken b counted))))
 
 -- The text that answers the sheet.
 abbrev text : tie.Start → List ℕ

@@ -1,4 +1,4 @@
--- `take_in` is safe and ends: each piece has at least one byte and no more than there is room for.
+-- `take_in` meets its contract and ends: each piece has at least one byte and no more than there is room for.
 -- Assumes nothing.
 use borrow.Author.Needs.{needs}
 use native.Mathlib.Omega.{arith}
@@ -15,66 +15,65 @@ Inv-loop buffer₀ done₀ buffer done = (done ≤ length buffer) × (length buf
 abbrev μ-loop : tie.MeasureT-loop
 μ-loop buffer₀ done₀ buffer done = length buffer₀ - done
 
+-- From what was read back to the call that read it, and from there to the loop's turn.
+abbrev piece : tie.After-n Inv-loop μ-loop → tie.After-more Inv-loop μ-loop
+piece c = c .before .before .before .before
+
+abbrev turn : tie.After-more Inv-loop μ-loop → tie.In-loop Inv-loop μ-loop
+turn c = c .before .before
+
 loop-holds : tie.Need-loop-holds Inv-loop μ-loop
-loop-holds c =
-    (omega arith, refl)
+loop-holds c = (omega arith, refl)
 
 more-requires : tie.Need-more-requires Inv-loop μ-loop
-more-requires c κs =
-    c .before .before .loop .inv .0
+more-requires c κs = c .before .before .loop .inv .0
 
 enum-told : tie.Need-enum-told Inv-loop μ-loop
-enum-told c =
-    search needs
+enum-told c = search needs
 
 same-length : tie.Need-same-length Inv-loop μ-loop
 same-length c =
-    c .before .before .before .before .more .kept .0 ∙ c .before .before .before .before .before .before .before .loop .inv .1
+    let read = c .before .before .before .before in read .more .kept .0 ∙ turn read .before .loop .inv .1
 
 returns : tie.Need-returns Inv-loop μ-loop
-returns c =
-    search needs
+returns c = search needs
 
 enum-known-n : tie.Need-enum-known-n Inv-loop μ-loop
-enum-known-n c =
-    search needs
+enum-known-n c = search needs
 
 same-length-2 : tie.Need-same-length-2 Inv-loop μ-loop
 same-length-2 c =
-    c .before .before .before .before .before .before .more .kept .0 ∙ c .before .before .before .before .before .before .before .before .before .loop .inv .1
+    let read = piece (c .before .before) in read .more .kept .0 ∙ turn read .before .loop .inv .1
 
 returns-2 : tie.Need-returns-2 Inv-loop μ-loop
-returns-2 c =
-    search needs
+returns-2 c = search needs
 
 add-done : tie.Need-add-done Inv-loop μ-loop
 add-done c =
-    let h = subst (AtMost _) (c .before .before .n .given .1) (c .before .before .before .before .before .before .more .ensures) in
-    let l = c .before .before .before .before .before .before .before .before .before .loop in
-    let k = c .before .before .before .before .before .before .more .kept .0 in
-    omega (arith, h, l .inv .0, c .before .before .before .before .before .before .before .before .before .before .before .good)
+    let read = piece (c .before .before) in
+    let few = subst (AtMost _) (c .before .before .n .given .1) (read .more .ensures) in
+    omega (arith, few, turn read .before .loop .inv .0, turn read .before .before .before .good)
 
 loop-less : tie.Need-loop-less Inv-loop μ-loop
 loop-less c =
-    let h = subst (AtMost _) (c .before .before .n .given .1) (c .before .before .before .before .before .before .more .ensures) in
-    let l = c .before .before .before .before .before .before .before .before .before .loop in
-    let k = c .before .before .before .before .before .before .more .kept .0 in
-    omega (arith, h, l .inv .1, l .inv .0, c .if1 .left, c .before .before .before .before .before .before .before .before .loop-test .taken)
+    let read = piece (c .before .before) in
+    let few = subst (AtMost _) (c .before .before .n .given .1) (read .more .ensures) in
+    let inv = turn read .before .loop .inv in
+    omega (arith, few, inv .0, inv .1, c .if1 .left, turn read .loop-test .taken)
 
 loop-again : tie.Need-loop-again Inv-loop μ-loop
 loop-again c =
-    let h = subst (AtMost _) (c .before .before .n .given .1) (c .before .before .before .before .before .before .more .ensures) in
-    let l = c .before .before .before .before .before .before .before .before .before .loop in
-    let k = c .before .before .before .before .before .before .more .kept .0 in
-    (omega (arith, h, k, l .inv .0, c .before .before .before .before .before .before .before .before .loop-test .taken), k ∙ l .inv .1)
+    let read = piece (c .before .before) in
+    let few = subst (AtMost _) (c .before .before .n .given .1) (read .more .ensures) in
+    let kept = read .more .kept .0 in
+    let inv = turn read .before .loop .inv in
+    (omega (arith, few, kept, inv .0, turn read .loop-test .taken), kept ∙ inv .1)
 
 same-length-3 : tie.Need-same-length-3 Inv-loop μ-loop
-same-length-3 c =
-    c .before .loop .inv .1
+same-length-3 c = c .before .loop .inv .1
 
 returns-3 : tie.Need-returns-3 Inv-loop μ-loop
-returns-3 c =
-    search needs
+returns-3 c = search needs
 
 pub take-in-spec : {M : Type 1} → statement M
 take-in-spec =
