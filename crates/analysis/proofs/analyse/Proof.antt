@@ -18,15 +18,6 @@ entry c = c .before .before .before .before .before .before
 abbrev table : tie.Start → Table
 table c = tableOf (now (c .args .kinds)) (now (c .args .xs)) (now (c .args .ys)) (now (c .args .roots))
 
-judge-with-requires : tie.Need-judge-with-requires
-judge-with-requires c κs = search needs
-
-enum-known-r : tie.Need-enum-known-r
-enum-known-r c = search needs
-
-enum-told : tie.Need-enum-told
-enum-told c = search needs
-
 run-requires : tie.Need-run-requires
 run-requires c κs =
     let j = c .before .before .before in
@@ -38,9 +29,6 @@ returns c =
     let j = c .before .before .before in
     let a = entry j in
     refused-reply ours (table a) (now (a .args .matrix)) (sym (j .judge-with .ensures) ∙ c .before .r .given .1)
-
-same-length : tie.Need-same-length
-same-length c = search needs
 
 returns-2 : tie.Need-returns-2
 returns-2 c =
@@ -55,10 +43,5 @@ pub analyse-spec : {M : Type 1} → statement M
 analyse-spec =
     tie.close
     (tie.spec
-    judge-with-requires
-    enum-known-r
-    enum-told
-    run-requires
-    returns
-    same-length
+    (λ c κs. search needs) (λ c. search needs) (λ c. search needs) run-requires returns (λ c. search needs)
     returns-2)

@@ -27,15 +27,6 @@ admitted-returns c r e =
     admitted-verdict ours (table (c .before .before .before)) (sym (c .before .before .before .judge .ensures) ∙ c .before .enum-told .given .1)
     (sym r ∙ c .reaches-itself .ensures) e
 
-judge-requires : tie.Need-judge-requires
-judge-requires c κs = search needs
-
-enum-known-r : tie.Need-enum-known-r
-enum-known-r c = search needs
-
-enum-told : tie.Need-enum-told
-enum-told c = search needs
-
 reaches-itself-requires : tie.Need-reaches-itself-requires
 reaches-itself-requires c κs = sym (c .before .before .judge .ensures) ∙ c .enum-told .given .1
 
@@ -53,10 +44,5 @@ pub verdict-on-spec : {M : Type 1} → statement M
 verdict-on-spec =
     tie.close
     (tie.spec
-    judge-requires
-    enum-known-r
-    enum-told
-    reaches-itself-requires
-    returns
-    returns-2
+    (λ c κs. search needs) (λ c. search needs) (λ c. search needs) reaches-itself-requires returns returns-2
     returns-3)

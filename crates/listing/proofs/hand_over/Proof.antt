@@ -22,28 +22,10 @@ start c = c .before .before .before .before .before
 abbrev text : tie.Start → List ℕ
 text s = listing (ours .words) (now (s .args .pairs)) (s .args .rounds) (s .args .wide)
 
-count-requires : tie.Need-count-requires
-count-requires c κs = search needs
-
-listing-length-requires : tie.Need-listing-length-requires
-listing-length-requires c κs = search needs
-
 returns : tie.Need-returns
 returns c =
     let s = start (c .before) in
     (too-long (text s) (length (now (s .args .bytes))) (rw (c .before .listing-length .ensures) at (c .if1 .taken)), (refl, refl))
-
-put-listing-requires : tie.Need-put-listing-requires
-put-listing-requires c κs = search needs
-
-copy-requires : tie.Need-copy-requires
-copy-requires c κs = search needs
-
-same-length : tie.Need-same-length
-same-length c = search needs
-
-same-length-2 : tie.Need-same-length-2
-same-length-2 c = search needs
 
 returns-2 : tie.Need-returns-2
 returns-2 c =
@@ -60,11 +42,5 @@ pub hand-over-spec : {M : Type 1} → statement M
 hand-over-spec =
     tie.close
     (tie.spec
-    count-requires
-    listing-length-requires
-    returns
-    put-listing-requires
-    copy-requires
-    same-length
-    same-length-2
-    returns-2)
+    (λ c κs. search needs) (λ c κs. search needs) returns (λ c κs. search needs) (λ c κs. search needs)
+    (λ c. search needs) (λ c. search needs) returns-2)

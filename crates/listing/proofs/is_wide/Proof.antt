@@ -13,18 +13,6 @@ use Rattle.listing.proofs.is_wide.Tie as tie
 abbrev table : tie.Start → Table
 table s = tableOf (now (s .args .kinds)) (now (s .args .xs)) (now (s .args .ys)) (now (s .args .roots))
 
-verdict-on-requires : tie.Need-verdict-on-requires
-verdict-on-requires c κs = search needs
-
-enum-told : tie.Need-enum-told
-enum-told c = search needs
-
-enum-told-2 : tie.Need-enum-told-2
-enum-told-2 c = search needs
-
-enum-told-3 : tie.Need-enum-told-3
-enum-told-3 c = search needs
-
 returns : tie.Need-returns
 returns c =
     let said = c .before .before in
@@ -46,4 +34,5 @@ returns-3 c =
 pub is-wide-spec : {M : Type 1} → statement M
 is-wide-spec =
     tie.close
-    (tie.spec verdict-on-requires enum-told enum-told-2 enum-told-3 returns returns-2 returns-3)
+    (tie.spec
+    (λ c κs. search needs) (λ c. search needs) (λ c. search needs) (λ c. search needs) returns returns-2 returns-3)

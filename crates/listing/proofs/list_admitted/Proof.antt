@@ -24,37 +24,10 @@ table c = let a = start c .args in tableOf (now (a .kinds)) (now (a .xs)) (now (
 abbrev fresh : List ℕ
 fresh = none (matrixWords (ours .words))
 
-slice-aggregate-analyse : tie.Need-slice-aggregate-analyse
-slice-aggregate-analyse c = search needs
-
-analyse-requires : tie.Need-analyse-requires
-analyse-requires c κs = search needs
-
-enum-known-r : tie.Need-enum-known-r
-enum-known-r c = search needs
-
-enum-known-rounds : tie.Need-enum-known-rounds
-enum-known-rounds c = search needs
-
-is-wide-requires : tie.Need-is-wide-requires
-is-wide-requires c κs = search needs
-
-slice-aggregate-hand-over : tie.Need-slice-aggregate-hand-over
-slice-aggregate-hand-over c = search needs
-
-hand-over-requires : tie.Need-hand-over-requires
-hand-over-requires c κs = search needs
-
 returns : tie.Need-returns
 returns c =
     let n = c .before .before .before .before in
     absurd (never-refused ours (table n) (start n .pre .0) fresh (le-refl (matrixWords (ours .words))) (sym (c .before .r .given .1) ∙ n .analyse .ensures .0))
-
-same-length : tie.Need-same-length
-same-length c = search needs
-
-same-length-2 : tie.Need-same-length-2
-same-length-2 c = search needs
 
 returns-2 : tie.Need-returns-2
 returns-2 c =
@@ -76,14 +49,5 @@ pub list-admitted-spec : {M : Type 1} → statement M
 list-admitted-spec =
     tie.close
     (tie.spec
-    slice-aggregate-analyse
-    analyse-requires
-    enum-known-r
-    enum-known-rounds
-    is-wide-requires
-    slice-aggregate-hand-over
-    hand-over-requires
-    returns
-    same-length
-    same-length-2
-    returns-2)
+    (λ c. search needs) (λ c κs. search needs) (λ c. search needs) (λ c. search needs) (λ c κs. search needs)
+    (λ c. search needs) (λ c κs. search needs) returns (λ c. search needs) (λ c. search needs) returns-2)

@@ -32,15 +32,6 @@ judged c = c .before .before
 admitted-here : (c : tie.After-enum-told) → judgedWith ours (table (judged c)) (length (matrix (judged c))) ≡ Admitted
 admitted-here c = sym (judged c .judge-with .ensures) ∙ c .enum-told .given .1
 
-judge-with-requires : tie.Need-judge-with-requires
-judge-with-requires c κs = search needs
-
-enum-known-r : tie.Need-enum-known-r
-enum-known-r c = search needs
-
-enum-told : tie.Need-enum-told
-enum-told c = search needs
-
 list-admitted-requires : tie.Need-list-admitted-requires
 list-admitted-requires c κs =
     let e = c .before .before in admitted-with ours (table (judged e)) (length (matrix (judged e))) (admitted-here e)
@@ -49,12 +40,6 @@ returns : tie.Need-returns
 returns c =
     let j = c .before .before .before in
     refused-listing ours (table j) (matrix j) (now (start j .args .bytes)) (sym (j .judge-with .ensures) ∙ c .before .r .given .1)
-
-same-length : tie.Need-same-length
-same-length c = search needs
-
-same-length-2 : tie.Need-same-length-2
-same-length-2 c = search needs
 
 returns-2 : tie.Need-returns-2
 returns-2 c =
@@ -69,11 +54,5 @@ pub list-pairs-spec : {M : Type 1} → statement M
 list-pairs-spec =
     tie.close
     (tie.spec
-    judge-with-requires
-    enum-known-r
-    enum-told
-    list-admitted-requires
-    returns
-    same-length
-    same-length-2
-    returns-2)
+    (λ c κs. search needs) (λ c. search needs) (λ c. search needs) list-admitted-requires returns
+    (λ c. search needs) (λ c. search needs) returns-2)

@@ -12,15 +12,6 @@ use borrow.Author.Needs.{needs}
 use Rattle.listing.proofs.listing_length.Statement.{statement}
 use Rattle.listing.proofs.listing_length.Tie as tie
 
-opening-length-requires : tie.Need-opening-length-requires
-opening-length-requires c κs = search needs
-
-pairs-length-requires : tie.Need-pairs-length-requires
-pairs-length-requires c κs = search needs
-
-add-result : tie.Need-add-result
-add-result c = omega arith
-
 returns : tie.Need-returns
 unfolding listing
 returns c =
@@ -30,4 +21,7 @@ returns c =
     ∙ sym (length-append (opening _ (a .rounds) (a .wide)) (lines (pairs (ours .words) (now (a .pairs)))))
 
 pub listing-length-spec : {M : Type 1} → statement M
-listing-length-spec = tie.close (tie.spec opening-length-requires pairs-length-requires add-result returns)
+listing-length-spec =
+    tie.close
+    (tie.spec
+    (λ c κs. search needs) (λ c κs. search needs) (λ c. omega arith) returns)

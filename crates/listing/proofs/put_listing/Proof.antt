@@ -22,15 +22,6 @@ unfolding listing
 counted s =
     ap (λ (n : ℕ). opening n (s .args .rounds) (s .args .wide) ++ lines (pairs (ours .words) (now (s .args .pairs)))) (s .pre .0 .0)
 
-put-opening-requires : tie.Need-put-opening-requires
-put-opening-requires c κs = search needs
-
-put-pairs-requires : tie.Need-put-pairs-requires
-put-pairs-requires c κs = search needs
-
-same-length : tie.Need-same-length
-same-length c = search needs
-
 returns : tie.Need-returns
 returns c =
     let put = c .before .before in
@@ -40,4 +31,7 @@ returns c =
     rw (sym (counted s)) (put-front room (put-behind (opened .put-opening .ensures) (put .put-pairs .ensures)))
 
 pub put-listing-spec : {M : Type 1} → statement M
-put-listing-spec = tie.close (tie.spec put-opening-requires put-pairs-requires same-length returns)
+put-listing-spec =
+    tie.close
+    (tie.spec
+    (λ c κs. search needs) (λ c κs. search needs) (λ c. search needs) returns)

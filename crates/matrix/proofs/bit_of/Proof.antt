@@ -7,15 +7,12 @@ use borrow.Author.Needs.{needs}
 use Rattle.matrix.proofs.bit_of.Statement.{statement}
 use Rattle.matrix.proofs.bit_of.Tie as tie
 
-cast-result : tie.Need-cast-result
-cast-result c = search needs
-
-shr-result : tie.Need-shr-result
-shr-result c = search needs
-
 returns : tie.Need-returns
 unfolding bit
 returns c = sym (member-one (c .before .args .set) (c .before .args .label .0) (c .before .pre))
 
 pub bit-of-spec : {M : Type 1} → statement M
-bit-of-spec = tie.close (tie.spec cast-result shr-result returns)
+bit-of-spec =
+    tie.close
+    (tie.spec
+    (λ c. search needs) (λ c. search needs) returns)

@@ -16,49 +16,14 @@ Inv-loop matrix₀ n i₀ matrix i = Changing (matrixWords (ours .words)) (λ k 
 abbrev μ-loop : tie.MeasureT-loop
 μ-loop matrix₀ n i₀ matrix i = n - i
 
-held-requires : tie.Need-held-requires Inv-loop μ-loop
-held-requires c κs = search needs
-
-loop-holds : tie.Need-loop-holds Inv-loop μ-loop
-loop-holds c = begins (c .held .ensures)
-
-mul-matrix : tie.Need-mul-matrix Inv-loop μ-loop
-mul-matrix c = omega arith
-
-slice-write-matrix : tie.Need-slice-write-matrix Inv-loop μ-loop
-slice-write-matrix c = omega arith
-
-add-i : tie.Need-add-i Inv-loop μ-loop
-add-i c = omega arith
-
-loop-less : tie.Need-loop-less Inv-loop μ-loop
-loop-less c = omega arith
-
-loop-again : tie.Need-loop-again Inv-loop μ-loop
-loop-again c =
-    goes-on (c .before .loop .inv) (c .loop-test .taken) refl
-
-same-length : tie.Need-same-length Inv-loop μ-loop
-same-length c =
-    c .before .loop .inv .size
-
-returns : tie.Need-returns Inv-loop μ-loop
-unfolding cleared
-returns c =
-    ends (c .before .loop .inv) (c .loop-test .left)
-
 pub clear-spec : {M : Type 1} → statement M
+unfolding cleared
 clear-spec =
     tie.close
-    (tie.spec
-    Inv-loop
-    μ-loop
-    held-requires
-    loop-holds
-    mul-matrix
-    slice-write-matrix
-    add-i
-    loop-less
-    loop-again
-    same-length
-    returns)
+    (tie.spec Inv-loop μ-loop
+    (λ c κs. search needs)
+    (λ c. begins (c .held .ensures))
+    (λ c. omega arith) (λ c. omega arith) (λ c. omega arith) (λ c. omega arith)
+    (λ c. goes-on (c .before .loop .inv) (c .loop-test .taken) refl)
+    (λ c. c .before .loop .inv .size)
+    (λ c. ends (c .before .loop .inv) (c .loop-test .left)))

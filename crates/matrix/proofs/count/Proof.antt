@@ -42,15 +42,6 @@ unfolding pairsBelow sumBelow
 loop-holds c =
     (search needs, refl)
 
-word-at-requires : tie.Need-word-at-requires Inv-loop μ-loop
-word-at-requires c κs = search needs
-
-cast-t7 : tie.Need-cast-t7 Inv-loop μ-loop
-cast-t7 c = omega arith
-
-pairs-from-requires : tie.Need-pairs-from-requires Inv-loop μ-loop
-pairs-from-requires c κs = omega arith
-
 add-sum : tie.Need-add-sum Inv-loop μ-loop
 add-sum c =
     let l = c .before .before .before .loop in
@@ -60,12 +51,6 @@ add-sum c =
     let counted : c .pairs-from .result ≡ ones (bitAnd (getD m (l .i) 0) (highMask (l .i))) =
     c .pairs-from .ensures ∙ ap (λ (x : ℕ). ones (bitAnd x (highMask (l .i)))) (c .before .word-at .ensures) in
     omega (arith, pairs-few m wm (l .i) (l .inv .0), row-few m wm (l .i) h)
-
-add-i : tie.Need-add-i Inv-loop μ-loop
-add-i c = omega arith
-
-loop-less : tie.Need-loop-less Inv-loop μ-loop
-loop-less c = omega arith
 
 loop-again : tie.Need-loop-again Inv-loop μ-loop
 unfolding pairsBelow sumBelow
@@ -88,14 +73,5 @@ pub count-spec : {M : Type 1} → statement M
 count-spec =
     tie.close
     (tie.spec
-    Inv-loop
-    μ-loop
-    loop-holds
-    word-at-requires
-    cast-t7
-    pairs-from-requires
-    add-sum
-    add-i
-    loop-less
-    loop-again
-    returns)
+    Inv-loop μ-loop loop-holds (λ c κs. search needs) (λ c. omega arith) (λ c κs. omega arith) add-sum
+    (λ c. omega arith) (λ c. omega arith) loop-again returns)

@@ -17,35 +17,8 @@ Inv-loop matrix₀ a b n i₀ matrix i = Changing (matrixWords (ours .words)) (c
 abbrev μ-loop : tie.MeasureT-loop
 μ-loop matrix₀ a b n i₀ matrix i = n - i
 
-held-requires : tie.Need-held-requires Inv-loop μ-loop
-held-requires c κs = search needs
-
 loop-holds : tie.Need-loop-holds Inv-loop μ-loop
 loop-holds c = begins (c .held .ensures)
-
-mul-crossed-word : tie.Need-mul-crossed-word Inv-loop μ-loop
-mul-crossed-word c = omega arith
-
-slice-read-crossed-word : tie.Need-slice-read-crossed-word Inv-loop μ-loop
-slice-read-crossed-word c = omega arith
-
-cast-t12 : tie.Need-cast-t12 Inv-loop μ-loop
-cast-t12 c = omega arith
-
-crossed-word-requires : tie.Need-crossed-word-requires Inv-loop μ-loop
-crossed-word-requires c κs = omega arith
-
-mul-matrix : tie.Need-mul-matrix Inv-loop μ-loop
-mul-matrix c = omega arith
-
-slice-write-matrix : tie.Need-slice-write-matrix Inv-loop μ-loop
-slice-write-matrix c = omega arith
-
-add-i : tie.Need-add-i Inv-loop μ-loop
-add-i c = omega arith
-
-loop-less : tie.Need-loop-less Inv-loop μ-loop
-loop-less c = omega arith
 
 loop-again : tie.Need-loop-again Inv-loop μ-loop
 loop-again c =
@@ -64,18 +37,6 @@ pub cross-spec : {M : Type 1} → statement M
 cross-spec =
     tie.close
     (tie.spec
-    Inv-loop
-    μ-loop
-    held-requires
-    loop-holds
-    mul-crossed-word
-    slice-read-crossed-word
-    cast-t12
-    crossed-word-requires
-    mul-matrix
-    slice-write-matrix
-    add-i
-    loop-less
-    loop-again
-    same-length
-    returns)
+    Inv-loop μ-loop (λ c κs. search needs) loop-holds (λ c. omega arith) (λ c. omega arith) (λ c. omega arith)
+    (λ c κs. omega arith) (λ c. omega arith) (λ c. omega arith) (λ c. omega arith) (λ c. omega arith) loop-again
+    same-length returns)

@@ -10,16 +10,10 @@ use borrow.Author.Needs.{needs}
 use Rattle.matrix.proofs.crossed_word.Statement.{statement}
 use Rattle.matrix.proofs.crossed_word.Tie as tie
 
-bit-of-requires : tie.Need-bit-of-requires
-bit-of-requires c κs = search needs
-
 mul-result : tie.Need-mul-result
 mul-result c =
     let s = c .before in
     record { fits = rw (c .bit-of .ensures) (times-fits _ (s .args .b) (member-lt (s .args .a ∷ []) (s .args .label .0)) (s .fits .b .fits)) }
-
-bit-of-requires-2 : tie.Need-bit-of-requires-2
-bit-of-requires-2 c κs = search needs
 
 mul-result-2 : tie.Need-mul-result-2
 mul-result-2 c =
@@ -33,4 +27,6 @@ returns c =
 
 pub crossed-word-spec : {M : Type 1} → statement M
 crossed-word-spec =
-    tie.close (tie.spec bit-of-requires mul-result bit-of-requires-2 mul-result-2 returns)
+    tie.close
+    (tie.spec
+    (λ c κs. search needs) mul-result (λ c κs. search needs) mul-result-2 returns)

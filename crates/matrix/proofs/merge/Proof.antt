@@ -18,32 +18,8 @@ Inv-loop matrix₀ other n i₀ matrix i = Changing (matrixWords (ours .words)) 
 abbrev μ-loop : tie.MeasureT-loop
 μ-loop matrix₀ other n i₀ matrix i = n - i
 
-held-requires : tie.Need-held-requires Inv-loop μ-loop
-held-requires c κs = search needs
-
 loop-holds : tie.Need-loop-holds Inv-loop μ-loop
 loop-holds c = begins (c .held .ensures)
-
-mul-matrix : tie.Need-mul-matrix Inv-loop μ-loop
-mul-matrix c = omega arith
-
-slice-read-matrix : tie.Need-slice-read-matrix Inv-loop μ-loop
-slice-read-matrix c = omega arith
-
-word-at-requires : tie.Need-word-at-requires Inv-loop μ-loop
-word-at-requires c κs = omega arith
-
-mul-matrix-2 : tie.Need-mul-matrix-2 Inv-loop μ-loop
-mul-matrix-2 c = omega arith
-
-slice-write-matrix : tie.Need-slice-write-matrix Inv-loop μ-loop
-slice-write-matrix c = omega arith
-
-add-i : tie.Need-add-i Inv-loop μ-loop
-add-i c = omega arith
-
-loop-less : tie.Need-loop-less Inv-loop μ-loop
-loop-less c = omega arith
 
 loop-again : tie.Need-loop-again Inv-loop μ-loop
 loop-again c =
@@ -64,17 +40,5 @@ pub merge-spec : {M : Type 1} → statement M
 merge-spec =
     tie.close
     (tie.spec
-    Inv-loop
-    μ-loop
-    held-requires
-    loop-holds
-    mul-matrix
-    slice-read-matrix
-    word-at-requires
-    mul-matrix-2
-    slice-write-matrix
-    add-i
-    loop-less
-    loop-again
-    same-length
-    returns)
+    Inv-loop μ-loop (λ c κs. search needs) loop-holds (λ c. omega arith) (λ c. omega arith) (λ c κs. omega arith)
+    (λ c. omega arith) (λ c. omega arith) (λ c. omega arith) (λ c. omega arith) loop-again same-length returns)

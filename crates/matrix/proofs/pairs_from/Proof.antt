@@ -9,14 +9,11 @@ use borrow.Author.Needs.{needs}
 use Rattle.matrix.proofs.pairs_from.Statement.{statement}
 use Rattle.matrix.proofs.pairs_from.Tie as tie
 
-cast-result : tie.Need-cast-result
-cast-result c = search needs
-
-shl-result : tie.Need-shl-result
-shl-result c = search needs
-
 returns : tie.Need-returns
 returns c = ap (λ (k : ℕ). ones (bitAnd (c .before .args .x) k)) (shifted-mask (c .before .args .label .0) (c .before .pre))
 
 pub pairs-from-spec : {M : Type 1} → statement M
-pairs-from-spec = tie.close (tie.spec cast-result shl-result returns)
+pairs-from-spec =
+    tie.close
+    (tie.spec
+    (λ c. search needs) (λ c. search needs) returns)

@@ -99,17 +99,11 @@ unused-is c =
 to-unused : (c : tie.Else5) → let t = past-roots (before-searches (c .before .before)) in judged ours t ≡ fromUnused ours t
 to-unused c = to-used-again (before-searches (c .before .before)) ∙ passed-on _ _ _ (again-is (c .before .before)) (c .if5 .left)
 
-sizes-right-requires : tie.Need-sizes-right-requires
-sizes-right-requires c κs = tt
-
 returns : tie.Need-returns
 returns c = sym (sizes-refused ours (at-sizes (c .before)) (sym (c .before .sizes-right .ensures) ∙ not-true _ (c .if1 .taken)))
 
 unknown-kind-requires : tie.Need-unknown-kind-requires
 unknown-kind-requires c κs = sizes c .few-rows
-
-cast-if2 : tie.Need-cast-if2
-cast-if2 c = omega arith
 
 returns-2 : tie.Need-returns-2
 returns-2 c = sym (to-kinds (c .before .before .before) ∙ refused-at _ _ _ (c .before .before .unknown-kind .ensures) (c .if2 .taken))
@@ -117,17 +111,11 @@ returns-2 c = sym (to-kinds (c .before .before .before) ∙ refused-at _ _ _ (c 
 wrong-operand-requires : tie.Need-wrong-operand-requires
 wrong-operand-requires c κs = let s = sizes (c .before .before .before) in (s .few-rows, (s .xs-match, s .ys-match))
 
-cast-if3 : tie.Need-cast-if3
-cast-if3 c = omega arith
-
 returns-3 : tie.Need-returns-3
 returns-3 c = sym (to-operands (c .before .before .before) ∙ refused-at _ _ _ (c .before .before .wrong-operand .ensures) (c .if3 .taken))
 
 missing-row-requires : tie.Need-missing-row-requires
 missing-row-requires c κs = sizes-of-roots c .few-procs
-
-cast-if4 : tie.Need-cast-if4
-cast-if4 c = omega arith
 
 returns-4 : tie.Need-returns-4
 returns-4 c = sym (to-roots (c .before .before .before) ∙ refused-at _ _ _ (c .before .before .missing-row .ensures) (c .if4 .taken))
@@ -153,17 +141,11 @@ count-roots-requires c κs f l =
 first-with-requires : tie.Need-first-with-requires
 first-with-requires c κs = sizes-still (before-counting (c .before)) .few-rows
 
-cast-if5 : tie.Need-cast-if5
-cast-if5 c = omega arith
-
 returns-5 : tie.Need-returns-5
 returns-5 c = sym (to-used-again (before-searches (c .before .before)) ∙ refused-at _ _ _ (again-is (c .before .before)) (c .if5 .taken))
 
 first-with-requires-2 : tie.Need-first-with-requires-2
 first-with-requires-2 c κs = sizes-still (before-searches (c .before .before .before)) .few-rows
-
-cast-if6 : tie.Need-cast-if6
-cast-if6 c = omega arith
 
 returns-6 : tie.Need-returns-6
 returns-6 c = sym (to-unused (c .before .before .before .before) ∙ refused-at _ _ _ (unused-is (c .before .before)) (c .if6 .taken))
@@ -175,23 +157,7 @@ pub judge-spec : {M : Type 1} → statement M
 judge-spec =
     tie.close
     (tie.spec
-    sizes-right-requires
-    returns
-    unknown-kind-requires
-    cast-if2
-    returns-2
-    wrong-operand-requires
-    cast-if3
-    returns-3
-    missing-row-requires
-    cast-if4
-    returns-4
-    count-children-requires
-    count-roots-requires
-    first-with-requires
-    cast-if5
-    returns-5
-    first-with-requires-2
-    cast-if6
-    returns-6
-    returns-7)
+    (λ c κs. tt) returns unknown-kind-requires (λ c. omega arith) returns-2 wrong-operand-requires
+    (λ c. omega arith) returns-3 missing-row-requires (λ c. omega arith) returns-4 count-children-requires
+    count-roots-requires first-with-requires (λ c. omega arith) returns-5 first-with-requires-2 (λ c. omega arith)
+    returns-6 returns-7)

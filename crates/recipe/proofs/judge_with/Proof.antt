@@ -22,9 +22,6 @@ table c = let a = start c .args in tableOf (now (a .kinds)) (now (a .xs)) (now (
 right-sizes : (c : tie.Else1) → sizesFit ours (table (c .before)) ≡ true
 right-sizes c = sym (c .before .sizes-right .ensures) ∙ not-false _ (c .if1 .left)
 
-sizes-right-requires : tie.Need-sizes-right-requires
-sizes-right-requires c κs = search needs
-
 returns : tie.Need-returns
 returns c =
     let d = c .before in
@@ -35,9 +32,6 @@ returns-2 c =
     let d = c .before .before in
     short-matrix ours (table d) (start d .args .words) (right-sizes (c .before)) (c .if2 .taken)
 
-judge-requires : tie.Need-judge-requires
-judge-requires c κs = search needs
-
 returns-3 : tie.Need-returns-3
 returns-3 c =
     let past = c .before .before in
@@ -46,4 +40,6 @@ returns-3 c =
 
 pub judge-with-spec : {M : Type 1} → statement M
 judge-with-spec =
-    tie.close (tie.spec sizes-right-requires returns returns-2 judge-requires returns-3)
+    tie.close
+    (tie.spec
+    (λ c κs. search needs) returns returns-2 (λ c κs. search needs) returns-3)

@@ -38,12 +38,6 @@ small c = room-for-a-digit (turn (c .before) .loop .inv) (c .before .before .if2
 loop-holds : tie.Need-loop-holds Inv-loop μ-loop
 loop-holds c = record { left = refl; short = c .before .pre; reached = at-start _ _ }
 
-shared-slice-read-b : tie.Need-shared-slice-read-b Inv-loop μ-loop
-shared-slice-read-b c = omega arith
-
-add-t14 : tie.Need-add-t14 Inv-loop μ-loop
-add-t14 c = omega arith
-
 returns : tie.Need-returns Inv-loop μ-loop
 returns c =
     let i = c .before .before .before .loop .inv in
@@ -52,9 +46,6 @@ returns c =
 
 returns-2 : tie.Need-returns-2 Inv-loop μ-loop
 returns-2 c = (too-many-digits (c .before .before .before .before .loop .inv) (omega arith) (c .before .if1 .left) (c .if2 .taken), tt)
-
-is-digit-requires : tie.Need-is-digit-requires Inv-loop μ-loop
-is-digit-requires c κs = tt
 
 returns-3 : tie.Need-returns-3 Inv-loop μ-loop
 returns-3 c =
@@ -73,15 +64,6 @@ cast-n c = omega (arith, digit-bounds _ (is-one c))
 add-n : tie.Need-add-n Inv-loop μ-loop
 add-n c = omega (arith, small c, digit-bounds _ (is-one c))
 
-sub-more : tie.Need-sub-more Inv-loop μ-loop
-sub-more c = omega arith
-
-add-next : tie.Need-add-next Inv-loop μ-loop
-add-next c = omega arith
-
-loop-less : tie.Need-loop-less Inv-loop μ-loop
-loop-less c = omega arith
-
 loop-again : tie.Need-loop-again Inv-loop μ-loop
 loop-again c =
     one-digit-more (turn (c .before) .loop .inv) (omega arith) (c .before .before .before .if1 .left) (c .before .before .if2 .left) (is-one c)
@@ -93,21 +75,5 @@ pub digits-at-spec : {M : Type 1} → statement M
 digits-at-spec =
     tie.close
     (tie.spec
-    Inv-loop
-    μ-loop
-    loop-holds
-    shared-slice-read-b
-    add-t14
-    returns
-    returns-2
-    is-digit-requires
-    returns-3
-    mul-n
-    sub-n
-    cast-n
-    add-n
-    sub-more
-    add-next
-    loop-less
-    loop-again
-    returns-4)
+    Inv-loop μ-loop loop-holds (λ c. omega arith) (λ c. omega arith) returns returns-2 (λ c κs. tt) returns-3
+    mul-n sub-n cast-n add-n (λ c. omega arith) (λ c. omega arith) (λ c. omega arith) loop-again returns-4)

@@ -25,22 +25,10 @@ is-one c = sym (c .before .is-digit .ensures) ∙ not-false _ (c .if2 .left)
 returns : tie.Need-returns
 returns c = token-found _ _ _ Missing (no-number _ _ _ (c .if1 .taken)) tt
 
-shared-slice-read-b : tie.Need-shared-slice-read-b
-shared-slice-read-b c = search needs
-
-is-digit-requires : tie.Need-is-digit-requires
-is-digit-requires c κs = search needs
-
 returns-2 : tie.Need-returns-2
 returns-2 c =
     token-found _ _ _ Missing
     (no-number-here _ _ _ (c .before .before .before .if1 .left) (sym (c .before .is-digit .ensures) ∙ not-true _ (c .if2 .taken))) tt
-
-add-digits-at : tie.Need-add-digits-at
-add-digits-at c = search needs
-
-digits-after-requires : tie.Need-digits-after-requires
-digits-after-requires c κs = search needs
 
 sub-digits-at : tie.Need-sub-digits-at
 sub-digits-at c = digit-bounds _ (is-one (c .before)) .0
@@ -63,13 +51,5 @@ pub number-at-spec : {M : Type 1} → statement M
 number-at-spec =
     tie.close
     (tie.spec
-    returns
-    shared-slice-read-b
-    is-digit-requires
-    returns-2
-    add-digits-at
-    digits-after-requires
-    sub-digits-at
-    cast-digits-at
-    digits-at-requires
-    returns-3)
+    returns (λ c. search needs) (λ c κs. search needs) returns-2 (λ c. search needs) (λ c κs. search needs)
+    sub-digits-at cast-digits-at digits-at-requires returns-3)

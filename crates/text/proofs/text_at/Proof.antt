@@ -24,23 +24,8 @@ loop-holds c = record { left = refl; reached = at-start (now (c .args .bytes)) (
 returns : tie.Need-returns Inv-loop μ-loop
 returns c = token-found _ _ _ Missing (text-ends (c .before .before .loop .inv) (c .before .loop-test .taken) (c .if1 .taken)) tt
 
-shared-slice-read-if2 : tie.Need-shared-slice-read-if2 Inv-loop μ-loop
-shared-slice-read-if2 c = omega arith
-
-shared-slice-read-if2-2 : tie.Need-shared-slice-read-if2-2 Inv-loop μ-loop
-shared-slice-read-if2-2 c = omega arith
-
 returns-2 : tie.Need-returns-2 Inv-loop μ-loop
 returns-2 c = token-found _ _ _ Missing (text-breaks (c .before .before .before .before .before .loop .inv) (omega arith) (omega arith) (c .if2 .taken)) tt
-
-add-next : tie.Need-add-next Inv-loop μ-loop
-add-next c = omega arith
-
-add-i : tie.Need-add-i Inv-loop μ-loop
-add-i c = omega arith
-
-loop-less : tie.Need-loop-less Inv-loop μ-loop
-loop-less c = omega arith
 
 loop-again : tie.Need-loop-again Inv-loop μ-loop
 loop-again c = text-goes-on (c .before .before .before .before .before .loop .inv) (omega arith) (omega arith) (c .if2 .left)
@@ -54,15 +39,5 @@ pub text-at-spec : {M : Type 1} → statement M
 text-at-spec =
     tie.close
     (tie.spec
-    Inv-loop
-    μ-loop
-    loop-holds
-    returns
-    shared-slice-read-if2
-    shared-slice-read-if2-2
-    returns-2
-    add-next
-    add-i
-    loop-less
-    loop-again
-    returns-3)
+    Inv-loop μ-loop loop-holds returns (λ c. omega arith) (λ c. omega arith) returns-2 (λ c. omega arith)
+    (λ c. omega arith) (λ c. omega arith) loop-again returns-3)

@@ -5,15 +5,6 @@ use Rattle.analysis.proofs.RowCases.{body-row}
 use Rattle.analysis.proofs.rounds.body_summary.Statement.{statement}
 use Rattle.analysis.proofs.rounds.body_summary.Tie as tie
 
-clear-requires : tie.Need-clear-requires
-clear-requires c κs = search needs
-
-row-summary-requires : tie.Need-row-summary-requires
-row-summary-requires c κs = search needs
-
-same-length : tie.Need-same-length
-same-length c = search needs
-
 returns : tie.Need-returns
 returns c =
     let worked = c .before .before in
@@ -29,4 +20,7 @@ returns c =
     (cleared .clear .ensures) (worked .row-summary .ensures)
 
 pub body-summary-spec : {M : Type 1} → statement M
-body-summary-spec = tie.close (tie.spec clear-requires row-summary-requires same-length returns)
+body-summary-spec =
+    tie.close
+    (tie.spec
+    (λ c κs. search needs) (λ c κs. search needs) (λ c. search needs) returns)

@@ -53,53 +53,17 @@ part-size c =
 back-size : (c : tie.After-slice-known2) → length (back c) ≡ length (now (start c .args .new))
 back-size c = same-len-mid (at (start c)) (span (start c)) (now (start c .args .new)) (worked c .body-summary .last .0) (worked c .body-summary .kept .0)
 
-cast-at : tie.Need-cast-at
-cast-at c = search needs
-
-mul-t13 : tie.Need-mul-t13
-mul-t13 c = search needs
-
-shared-slice-read-t15 : tie.Need-shared-slice-read-t15
-shared-slice-read-t15 c = search needs
-
-mul-start : tie.Need-mul-start
-mul-start c = search needs
-
-add-end : tie.Need-add-end
-add-end c = search needs
-
-mul-body-summary : tie.Need-mul-body-summary
-mul-body-summary c = search needs
-
-sub-body-summary : tie.Need-sub-body-summary
-sub-body-summary c = search needs
-
-part-body-summary-start : tie.Need-part-body-summary-start
-part-body-summary-start c = search needs
-
 part-body-summary-end : tie.Need-part-body-summary-end
 part-body-summary-end c = omega (arith, fits (entry c))
 
 body-summary-requires : tie.Need-body-summary-requires
 body-summary-requires c κs = let s = entry (c .before) in ready-root (s .pre .0) (s .args .f .0) (s .pre .1) (part-size s)
 
-mul-new : tie.Need-mul-new
-mul-new c = search needs
-
 slice-write-new : tie.Need-slice-write-new
 slice-write-new c = omega (arith, back-size c, fits (start c))
 
-add-new : tie.Need-add-new
-add-new c = search needs
-
-mul-new-2 : tie.Need-mul-new-2
-mul-new-2 c = search needs
-
 slice-write-new-2 : tie.Need-slice-write-new-2
 slice-write-new-2 c = simp length-set (omega (arith, back-size c, fits (start c)))
-
-same-length : tie.Need-same-length
-same-length c = search needs
 
 returns : tie.Need-returns
 returns c =
@@ -116,20 +80,7 @@ pub one-body-spec : {M : Type 1} → statement M
 one-body-spec =
     tie.close
     (tie.spec
-    cast-at
-    mul-t13
-    shared-slice-read-t15
-    mul-start
-    add-end
-    mul-body-summary
-    sub-body-summary
-    part-body-summary-start
-    part-body-summary-end
-    body-summary-requires
-    mul-new
-    slice-write-new
-    add-new
-    mul-new-2
-    slice-write-new-2
-    same-length
-    returns)
+    (λ c. search needs) (λ c. search needs) (λ c. search needs) (λ c. search needs) (λ c. search needs)
+    (λ c. search needs) (λ c. search needs) (λ c. search needs) part-body-summary-end body-summary-requires
+    (λ c. search needs) slice-write-new (λ c. search needs) (λ c. search needs) slice-write-new-2
+    (λ c. search needs) returns)

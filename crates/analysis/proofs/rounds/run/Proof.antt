@@ -41,12 +41,6 @@ copying c = c .before .before .before
 matrix-inside : (c : tie.At-loop Inv-loop μ-loop) → length (take (matrixWords w) (c .loop .held)) ≡ matrixWords w
 matrix-inside c = length-take-le (matrixWords w) (c .loop .held) (omega (arith, state-size (c .loop .inv)))
 
-empty-requires : tie.Need-empty-requires Inv-loop μ-loop
-empty-requires c κs = search needs
-
-empty-requires-2 : tie.Need-empty-requires-2 Inv-loop μ-loop
-empty-requires-2 c κs = search needs
-
 loop-holds : tie.Need-loop-holds Inv-loop μ-loop
 loop-holds c = rounds-begin (entry c .pre .0) (c .before .empty .ensures) (c .empty2 .ensures)
 
@@ -94,12 +88,6 @@ array-share-prefix-held c = omega (arith, state-size (worked (compared (c .befor
 slice-aggregate-copy : tie.Need-slice-aggregate-copy Inv-loop μ-loop
 slice-aggregate-copy c = sym (matrix-inside (worked (compared (copying c))))
 
-copy-requires : tie.Need-copy-requires Inv-loop μ-loop
-copy-requires c κs = search needs
-
-same-length : tie.Need-same-length Inv-loop μ-loop
-same-length c = search needs
-
 returns : tie.Need-returns Inv-loop μ-loop
 returns c =
     let copied = c .before .before in
@@ -119,22 +107,7 @@ pub run-spec : {M : Type 1} → statement M
 run-spec =
     tie.close
     (tie.spec
-    Inv-loop
-    μ-loop
-    empty-requires
-    empty-requires-2
-    loop-holds
-    slice-aggregate-round
-    slice-aggregate-round-2
-    round-requires
-    slice-aggregate-repeats
-    slice-aggregate-repeats-2
-    repeats-requires
-    add-k
-    loop-less
-    loop-again
-    array-share-prefix-held
-    slice-aggregate-copy
-    copy-requires
-    same-length
-    returns)
+    Inv-loop μ-loop (λ c κs. search needs) (λ c κs. search needs) loop-holds slice-aggregate-round
+    slice-aggregate-round-2 round-requires slice-aggregate-repeats slice-aggregate-repeats-2 repeats-requires
+    add-k loop-less loop-again array-share-prefix-held slice-aggregate-copy (λ c κs. search needs)
+    (λ c. search needs) returns)

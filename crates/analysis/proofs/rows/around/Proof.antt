@@ -12,18 +12,6 @@ use Rattle.analysis.proofs.rows.around.Tie as tie
 abbrev one-word : ℕ → List ℕ
 one-word n = n ∷ []
 
-repetition-requires : tie.Need-repetition-requires
-repetition-requires c κs = search needs
-
-spawned-requires : tie.Need-spawned-requires
-spawned-requires c κs = search needs
-
-waited-requires : tie.Need-waited-requires
-waited-requires c κs = search needs
-
-same-length : tie.Need-same-length
-same-length c = search needs
-
 returns : tie.Need-returns
 returns c =
     let k = c .before .before .before .before .match .keys1 in
@@ -45,10 +33,5 @@ pub around-spec : {M : Type 1} → statement M
 around-spec =
     tie.close
     (tie.spec
-    repetition-requires
-    spawned-requires
-    waited-requires
-    same-length
-    returns
-    returns-2
+    (λ c κs. search needs) (λ c κs. search needs) (λ c κs. search needs) (λ c. search needs) returns returns-2
     returns-3)

@@ -9,19 +9,13 @@ use Rattle.analysis.proofs.Shape.{by-parts}
 use Rattle.analysis.proofs.rows.sequence.Statement.{statement}
 use Rattle.analysis.proofs.rows.sequence.Tie as tie
 
-cross-requires : tie.Need-cross-requires
-cross-requires c κs = search needs
-
-joined-with-requires : tie.Need-joined-with-requires
-joined-with-requires c κs = search needs
-
-same-length : tie.Need-same-length
-same-length c = search needs
-
 returns : tie.Need-returns
 returns c =
     by-parts (c .before .before .before .cross .ensures ∙ ap (crossed (ours .words) _ _) (sym (self-into (ours .words) _)))
     (c .joined-with .ensures .0) (c .joined-with .ensures .1)
 
 pub sequence-spec : {M : Type 1} → statement M
-sequence-spec = tie.close (tie.spec cross-requires joined-with-requires same-length returns)
+sequence-spec =
+    tie.close
+    (tie.spec
+    (λ c κs. search needs) (λ c κs. search needs) (λ c. search needs) returns)

@@ -10,14 +10,11 @@ use borrow.Author.Needs.{needs}
 use Rattle.calls.proofs.reach.alone.Statement.{statement}
 use Rattle.calls.proofs.reach.alone.Tie as tie
 
-cast-result : tie.Need-cast-result
-cast-result c = search needs
-
-shl-result : tie.Need-shl-result
-shl-result c = search needs
-
 returns : tie.Need-returns
 returns c = shl-exact 1 (c .before .args .proc .0) wordBits (lit< tt) (omega arith) ∙ one-mul _
 
 pub alone-spec : {M : Type 1} → statement M
-alone-spec = tie.close (tie.spec cast-result shl-result returns)
+alone-spec =
+    tie.close
+    (tie.spec
+    (λ c. search needs) (λ c. search needs) returns)

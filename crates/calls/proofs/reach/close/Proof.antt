@@ -26,9 +26,6 @@ turn c = c .before .before .before .before
 loop-holds : tie.Need-loop-holds Inv-loop μ-loop
 loop-holds c = (closed-none _ _, omega arith, refl)
 
-cast-t8 : tie.Need-cast-t8 Inv-loop μ-loop
-cast-t8 c = omega arith
-
 through-requires : tie.Need-through-requires Inv-loop μ-loop
 through-requires c κs = omega (arith, c .before .before)
 
@@ -61,13 +58,4 @@ pub close-spec : {M : Type 1} → statement M
 close-spec =
     tie.close
     (tie.spec
-    Inv-loop
-    μ-loop
-    loop-holds
-    cast-t8
-    through-requires
-    add-k
-    loop-less
-    loop-again
-    same-length
-    returns)
+    Inv-loop μ-loop loop-holds (λ c. omega arith) through-requires add-k loop-less loop-again same-length returns)

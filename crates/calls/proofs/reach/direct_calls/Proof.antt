@@ -72,9 +72,6 @@ slice-write-reach c = omega (arith, start (c .before .before .before) .pre .1, c
 add-f : tie.Need-add-f Inv-loop μ-loop
 add-f c = omega (arith, few (c .before .before .before), c .before .before .loop-test .taken)
 
-loop-less : tie.Need-loop-less Inv-loop μ-loop
-loop-less c = omega arith
-
 loop-again : tie.Need-loop-again Inv-loop μ-loop
 loop-again c =
     let d = c .before .before .before in
@@ -91,16 +88,5 @@ pub direct-calls-spec : {M : Type 1} → statement M
 direct-calls-spec =
     tie.close
     (tie.spec
-    Inv-loop
-    μ-loop
-    loop-holds
-    mul-t7
-    shared-slice-read-t11
-    row-calls-requires
-    mul-reach
-    slice-write-reach
-    add-f
-    loop-less
-    loop-again
-    same-length
-    returns)
+    Inv-loop μ-loop loop-holds mul-t7 shared-slice-read-t11 row-calls-requires mul-reach slice-write-reach add-f
+    (λ c. omega arith) loop-again same-length returns)

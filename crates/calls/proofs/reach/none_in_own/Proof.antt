@@ -31,29 +31,11 @@ own c f = eqb (bit (getD (now (c .before .before .args .reach)) f 0) f) 0
 loop-holds : tie.Need-loop-holds Inv-loop μ-loop
 loop-holds c = (omega arith, refl)
 
-sub-f : tie.Need-sub-f Inv-loop μ-loop
-sub-f c = omega arith
-
-mul-bit-of : tie.Need-mul-bit-of Inv-loop μ-loop
-mul-bit-of c = omega arith
-
-shared-slice-read-bit-of : tie.Need-shared-slice-read-bit-of Inv-loop μ-loop
-shared-slice-read-bit-of c = omega arith
-
-cast-t9 : tie.Need-cast-t9 Inv-loop μ-loop
-cast-t9 c = omega arith
-
-bit-of-requires : tie.Need-bit-of-requires Inv-loop μ-loop
-bit-of-requires c κs = omega arith
-
 returns : tie.Need-returns Inv-loop μ-loop
 returns c =
     let d = head (c .before) in
     let set : own d (d .loop .f - 1) ≡ false = ne-eqb _ _ (λ e. c .if1 .taken (c .before .bit-of .ensures ∙ e)) in
     sym (d .loop .inv .1 ∙ fails-down (own d) (d .loop .f) (c .before .before .before .loop-test .taken) set)
-
-loop-less : tie.Need-loop-less Inv-loop μ-loop
-loop-less c = omega arith
 
 loop-again : tie.Need-loop-again Inv-loop μ-loop
 loop-again c =
@@ -70,15 +52,5 @@ pub none-in-own-spec : {M : Type 1} → statement M
 none-in-own-spec =
     tie.close
     (tie.spec
-    Inv-loop
-    μ-loop
-    loop-holds
-    sub-f
-    mul-bit-of
-    shared-slice-read-bit-of
-    cast-t9
-    bit-of-requires
-    returns
-    loop-less
-    loop-again
-    returns-2)
+    Inv-loop μ-loop loop-holds (λ c. omega arith) (λ c. omega arith) (λ c. omega arith) (λ c. omega arith)
+    (λ c κs. omega arith) returns (λ c. omega arith) loop-again returns-2)

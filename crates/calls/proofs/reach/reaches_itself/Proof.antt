@@ -33,20 +33,11 @@ table c = let a = start c .args in tableOf (now (a .kinds)) (now (a .xs)) (now (
 few : (c : tie.After-reach) → procs (table c) ≤ ours .procs
 few c = sizes-right ours (table c) (start c .pre) .few-procs
 
-slice-aggregate-direct-calls : tie.Need-slice-aggregate-direct-calls
-slice-aggregate-direct-calls c = search needs
-
 direct-calls-requires : tie.Need-direct-calls-requires
 direct-calls-requires c κs = (start c .pre, few c)
 
-slice-aggregate-close : tie.Need-slice-aggregate-close
-slice-aggregate-close c = search needs
-
 close-requires : tie.Need-close-requires
 close-requires c κs = omega (arith, few (before-direct c), c .before .before .direct-calls .kept .0)
-
-slice-aggregate-none-in-own : tie.Need-slice-aggregate-none-in-own
-slice-aggregate-none-in-own c = search needs
 
 none-in-own-requires : tie.Need-none-in-own-requires
 none-in-own-requires c κs =
@@ -66,10 +57,5 @@ pub reaches-itself-spec : {M : Type 1} → statement M
 reaches-itself-spec =
     tie.close
     (tie.spec
-    slice-aggregate-direct-calls
-    direct-calls-requires
-    slice-aggregate-close
-    close-requires
-    slice-aggregate-none-in-own
-    none-in-own-requires
-    returns)
+    (λ c. search needs) direct-calls-requires (λ c. search needs) close-requires (λ c. search needs)
+    none-in-own-requires returns)

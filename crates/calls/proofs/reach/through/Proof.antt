@@ -29,44 +29,14 @@ head c = c .before .before .before
 abbrev via : tie.After-bit-of Inv-loop μ-loop → ℕ
 via c = let a = start (head c .before) .args in getD (now (a .reach)) (a .k .0) 0
 
-cast-via : tie.Need-cast-via Inv-loop μ-loop
-cast-via c = omega arith
-
-mul-via : tie.Need-mul-via Inv-loop μ-loop
-mul-via c = omega arith
-
-slice-read-via : tie.Need-slice-read-via Inv-loop μ-loop
-slice-read-via c = omega arith
-
 loop-holds : tie.Need-loop-holds Inv-loop μ-loop
 loop-holds c = begins (omega (arith, start c .pre .0))
-
-mul-set : tie.Need-mul-set Inv-loop μ-loop
-mul-set c = omega arith
-
-slice-read-set : tie.Need-slice-read-set Inv-loop μ-loop
-slice-read-set c = omega arith
-
-bit-of-requires : tie.Need-bit-of-requires Inv-loop μ-loop
-bit-of-requires c κs = omega arith
 
 mul-reach : tie.Need-mul-reach Inv-loop μ-loop
 mul-reach c =
     let d = head c .before in
     let small : c .bit-of .result ≤ 1 = rw (c .bit-of .ensures) (le-of-suc-le-suc (bit-lt _ _)) in
     omega (arith, mul-le-mul-right (via c) small, one-mul (via c), d .slice-known2 .given (start d .args .k .0))
-
-mul-reach-2 : tie.Need-mul-reach-2 Inv-loop μ-loop
-mul-reach-2 c = omega arith
-
-slice-write-reach : tie.Need-slice-write-reach Inv-loop μ-loop
-slice-write-reach c = omega arith
-
-add-f : tie.Need-add-f Inv-loop μ-loop
-add-f c = omega arith
-
-loop-less : tie.Need-loop-less Inv-loop μ-loop
-loop-less c = omega arith
 
 loop-again : tie.Need-loop-again Inv-loop μ-loop
 loop-again c =
@@ -83,20 +53,6 @@ pub through-spec : {M : Type 1} → statement M
 through-spec =
     tie.close
     (tie.spec
-    Inv-loop
-    μ-loop
-    cast-via
-    mul-via
-    slice-read-via
-    loop-holds
-    mul-set
-    slice-read-set
-    bit-of-requires
-    mul-reach
-    mul-reach-2
-    slice-write-reach
-    add-f
-    loop-less
-    loop-again
-    same-length
-    returns)
+    Inv-loop μ-loop (λ c. omega arith) (λ c. omega arith) (λ c. omega arith) loop-holds (λ c. omega arith)
+    (λ c. omega arith) (λ c κs. omega arith) mul-reach (λ c. omega arith) (λ c. omega arith) (λ c. omega arith)
+    (λ c. omega arith) loop-again same-length returns)

@@ -14,15 +14,6 @@ use native.Mathlib.Omega.{arith}
 use Rattle.labels.proofs.Label.is_in.Statement.{statement}
 use Rattle.labels.proofs.Label.is_in.Tie as tie
 
-cast-if1 : tie.Need-cast-if1
-cast-if1 c = search needs
-
-cast-result : tie.Need-cast-result
-cast-result c = search needs
-
-shl-result : tie.Need-shl-result
-shl-result c = search needs
-
 returns : tie.Need-returns
 returns c =
     let l = c .before .args .self .0 in
@@ -35,4 +26,7 @@ returns-2 : tie.Need-returns-2
 returns-2 c = sym (ap (λ (x : ℕ). eqb x 1) (member-one-beyond (c .before .args .set) (c .before .args .self .0) (c .if1 .left)))
 
 pub is-in-spec : {M : Type 1} → statement M
-is-in-spec = tie.close (tie.spec cast-if1 cast-result shl-result returns returns-2)
+is-in-spec =
+    tie.close
+    (tie.spec
+    (λ c. search needs) (λ c. search needs) (λ c. search needs) returns returns-2)

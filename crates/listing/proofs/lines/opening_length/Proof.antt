@@ -8,24 +8,6 @@ use borrow.Author.Needs.{needs}
 use Rattle.listing.proofs.lines.opening_length.Statement.{statement}
 use Rattle.listing.proofs.lines.opening_length.Tie as tie
 
-digits-requires : tie.Need-digits-requires
-digits-requires c κs = search needs
-
-digits-requires-2 : tie.Need-digits-requires-2
-digits-requires-2 c κs = search needs
-
-add-result : tie.Need-add-result
-add-result c = search needs
-
-verdict-length-requires : tie.Need-verdict-length-requires
-verdict-length-requires c κs = search needs
-
-add-result-2 : tie.Need-add-result-2
-add-result-2 c = search needs
-
-add-result-3 : tie.Need-add-result-3
-add-result-3 c = search needs
-
 returns : tie.Need-returns
 returns c =
     let a = c .before .before .before .args in (
@@ -38,10 +20,5 @@ pub opening-length-spec : {M : Type 1} → statement M
 opening-length-spec =
     tie.close
     (tie.spec
-    digits-requires
-    digits-requires-2
-    add-result
-    verdict-length-requires
-    add-result-2
-    add-result-3
-    returns)
+    (λ c κs. search needs) (λ c κs. search needs) (λ c. search needs) (λ c κs. search needs) (λ c. search needs)
+    (λ c. search needs) returns)

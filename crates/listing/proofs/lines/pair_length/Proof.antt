@@ -9,12 +9,6 @@ use borrow.Author.Needs.{needs}
 use Rattle.listing.proofs.lines.pair_length.Statement.{statement}
 use Rattle.listing.proofs.lines.pair_length.Tie as tie
 
-is-in-requires : tie.Need-is-in-requires
-is-in-requires c κs = search needs
-
-line-length-requires : tie.Need-line-length-requires
-line-length-requires c κs = search needs
-
 returns : tie.Need-returns
 returns c =
     let s = c .before .before .before in
@@ -29,4 +23,6 @@ returns-2 c =
 
 pub pair-length-spec : {M : Type 1} → statement M
 pair-length-spec =
-    tie.close (tie.spec is-in-requires line-length-requires returns returns-2)
+    tie.close
+    (tie.spec
+    (λ c κs. search needs) (λ c κs. search needs) returns returns-2)

@@ -19,26 +19,8 @@ abbrev μ-loop : tie.MeasureT-loop
 loop-holds : tie.Need-loop-holds Inv-loop μ-loop
 loop-holds c = (sum-begins 0 (omega arith) (λ j h. absurd (omega arith)), omega arith)
 
-mul-row-length : tie.Need-mul-row-length Inv-loop μ-loop
-mul-row-length c = omega arith
-
-shared-slice-read-row-length : tie.Need-shared-slice-read-row-length Inv-loop μ-loop
-shared-slice-read-row-length c = omega arith
-
-cast-t9 : tie.Need-cast-t9 Inv-loop μ-loop
-cast-t9 c = omega arith
-
-row-length-requires : tie.Need-row-length-requires Inv-loop μ-loop
-row-length-requires c κs = omega arith
-
 add-sum : tie.Need-add-sum Inv-loop μ-loop
 add-sum c = omega (arith, c .before .before .before .loop .inv .0 .passed)
-
-add-i : tie.Need-add-i Inv-loop μ-loop
-add-i c = omega arith
-
-loop-less : tie.Need-loop-less Inv-loop μ-loop
-loop-less c = omega arith
 
 loop-again : tie.Need-loop-again Inv-loop μ-loop
 loop-again c =
@@ -54,15 +36,5 @@ pub pairs-length-spec : {M : Type 1} → statement M
 pairs-length-spec =
     tie.close
     (tie.spec
-    Inv-loop
-    μ-loop
-    loop-holds
-    mul-row-length
-    shared-slice-read-row-length
-    cast-t9
-    row-length-requires
-    add-sum
-    add-i
-    loop-less
-    loop-again
-    returns)
+    Inv-loop μ-loop loop-holds (λ c. omega arith) (λ c. omega arith) (λ c. omega arith) (λ c κs. omega arith)
+    add-sum (λ c. omega arith) (λ c. omega arith) loop-again returns)

@@ -9,15 +9,6 @@ use borrow.Author.Needs.{needs}
 use Rattle.listing.proofs.lines.put_pair.Statement.{statement}
 use Rattle.listing.proofs.lines.put_pair.Tie as tie
 
-is-in-requires : tie.Need-is-in-requires
-is-in-requires c κs = search needs
-
-put-line-requires : tie.Need-put-line-requires
-put-line-requires c κs = search needs
-
-same-length : tie.Need-same-length
-same-length c = search needs
-
 returns : tie.Need-returns
 returns c =
     let put = c .before .before in
@@ -34,4 +25,6 @@ returns-2 c =
 
 pub put-pair-spec : {M : Type 1} → statement M
 put-pair-spec =
-    tie.close (tie.spec is-in-requires put-line-requires same-length returns returns-2)
+    tie.close
+    (tie.spec
+    (λ c κs. search needs) (λ c κs. search needs) (λ c. search needs) returns returns-2)

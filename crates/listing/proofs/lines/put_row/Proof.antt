@@ -18,24 +18,12 @@ Inv-loop bytes₀ at partners i next₀ j₀ bytes next j = (i .0 ≤ j) × Writ
 abbrev μ-loop : tie.MeasureT-loop
 μ-loop bytes₀ at partners i next₀ j₀ bytes next j = labelCeiling (ours .words) - j
 
-cast-j : tie.Need-cast-j Inv-loop μ-loop
-cast-j c = search needs
-
 loop-holds : tie.Need-loop-holds Inv-loop μ-loop
 loop-holds c =
     let a = c .before .before .args in (le-refl (a .i .0), begins (a .i .0) (omega arith) (λ j h. no-pair-below (a .partners ∷ []) (a .i .0) j h))
 
-cast-t10 : tie.Need-cast-t10 Inv-loop μ-loop
-cast-t10 c = omega arith
-
 put-pair-requires : tie.Need-put-pair-requires Inv-loop μ-loop
 put-pair-requires c κs = c .before .before .loop .inv .0
-
-add-j : tie.Need-add-j Inv-loop μ-loop
-add-j c = omega arith
-
-loop-less : tie.Need-loop-less Inv-loop μ-loop
-loop-less c = omega arith
 
 loop-again : tie.Need-loop-again Inv-loop μ-loop
 loop-again c =
@@ -53,14 +41,5 @@ pub put-row-spec : {M : Type 1} → statement M
 put-row-spec =
     tie.close
     (tie.spec
-    Inv-loop
-    μ-loop
-    cast-j
-    loop-holds
-    cast-t10
-    put-pair-requires
-    add-j
-    loop-less
-    loop-again
-    same-length
-    returns)
+    Inv-loop μ-loop (λ c. search needs) loop-holds (λ c. omega arith) put-pair-requires (λ c. omega arith)
+    (λ c. omega arith) loop-again same-length returns)

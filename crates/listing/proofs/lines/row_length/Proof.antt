@@ -18,28 +18,16 @@ Inv-loop partners i sum₀ j₀ sum j = (i .0 ≤ j) × Summing (labelCeiling (o
 abbrev μ-loop : tie.MeasureT-loop
 μ-loop partners i sum₀ j₀ sum j = labelCeiling (ours .words) - j
 
-cast-j : tie.Need-cast-j Inv-loop μ-loop
-cast-j c = search needs
-
 loop-holds : tie.Need-loop-holds Inv-loop μ-loop
 loop-holds c =
     let a = c .before .args in
     (le-refl (a .i .0), sum-begins (a .i .0) (omega arith) (λ j h. no-pair-below (a .partners ∷ []) (a .i .0) j h), omega arith)
-
-cast-t7 : tie.Need-cast-t7 Inv-loop μ-loop
-cast-t7 c = omega arith
 
 pair-length-requires : tie.Need-pair-length-requires Inv-loop μ-loop
 pair-length-requires c κs = c .before .loop .inv .0
 
 add-sum : tie.Need-add-sum Inv-loop μ-loop
 add-sum c = omega (arith, c .before .before .loop .inv .1 .passed)
-
-add-j : tie.Need-add-j Inv-loop μ-loop
-add-j c = omega arith
-
-loop-less : tie.Need-loop-less Inv-loop μ-loop
-loop-less c = omega arith
 
 loop-again : tie.Need-loop-again Inv-loop μ-loop
 loop-again c =
@@ -53,14 +41,5 @@ pub row-length-spec : {M : Type 1} → statement M
 row-length-spec =
     tie.close
     (tie.spec
-    Inv-loop
-    μ-loop
-    cast-j
-    loop-holds
-    cast-t7
-    pair-length-requires
-    add-sum
-    add-j
-    loop-less
-    loop-again
-    returns)
+    Inv-loop μ-loop (λ c. search needs) loop-holds (λ c. omega arith) pair-length-requires add-sum
+    (λ c. omega arith) (λ c. omega arith) loop-again returns)

@@ -21,45 +21,15 @@ abbrev μ-loop : tie.MeasureT-loop
 loop-holds : tie.Need-loop-holds Inv-loop μ-loop
 loop-holds c = passed-none _ _
 
-cast-operands-right : tie.Need-cast-operands-right Inv-loop μ-loop
-cast-operands-right c = omega arith
-
-shared-slice-read-operands-right : tie.Need-shared-slice-read-operands-right Inv-loop μ-loop
-shared-slice-read-operands-right c = omega arith
-
-mul-operands-right : tie.Need-mul-operands-right Inv-loop μ-loop
-mul-operands-right c = omega arith
-
-shared-slice-read-operands-right-2 : tie.Need-shared-slice-read-operands-right-2 Inv-loop μ-loop
-shared-slice-read-operands-right-2 c = omega arith
-
-mul-operands-right-2 : tie.Need-mul-operands-right-2 Inv-loop μ-loop
-mul-operands-right-2 c = omega arith
-
-shared-slice-read-operands-right-3 : tie.Need-shared-slice-read-operands-right-3 Inv-loop μ-loop
-shared-slice-read-operands-right-3 c = omega arith
-
-operands-right-requires : tie.Need-operands-right-requires Inv-loop μ-loop
-operands-right-requires c κs = tt
-
 returns : tie.Need-returns Inv-loop μ-loop
 returns c =
     let turn = c .before .before .before .before .before in
     passed-found _ _ _ (turn .before .loop .inv) (ap not (sym (c .before .operands-right .ensures)) ∙ c .if1 .taken)
 
-add-i : tie.Need-add-i Inv-loop μ-loop
-add-i c = omega arith
-
-loop-less : tie.Need-loop-less Inv-loop μ-loop
-loop-less c = omega arith
-
 loop-again : tie.Need-loop-again Inv-loop μ-loop
 loop-again c =
     let turn = c .before .before .before .before .before in
     passed-more _ _ _ (turn .loop-test .taken) (turn .before .loop .inv) (ap not (sym (c .before .operands-right .ensures)) ∙ c .if1 .left)
-
-cast-t18 : tie.Need-cast-t18 Inv-loop μ-loop
-cast-t18 c = omega arith
 
 returns-2 : tie.Need-returns-2 Inv-loop μ-loop
 returns-2 c = passed-all _ _ _ (c .before .loop .inv) (c .loop-test .left)
@@ -68,19 +38,6 @@ pub wrong-operand-spec : {M : Type 1} → statement M
 wrong-operand-spec =
     tie.close
     (tie.spec
-    Inv-loop
-    μ-loop
-    loop-holds
-    cast-operands-right
-    shared-slice-read-operands-right
-    mul-operands-right
-    shared-slice-read-operands-right-2
-    mul-operands-right-2
-    shared-slice-read-operands-right-3
-    operands-right-requires
-    returns
-    add-i
-    loop-less
-    loop-again
-    cast-t18
-    returns-2)
+    Inv-loop μ-loop loop-holds (λ c. omega arith) (λ c. omega arith) (λ c. omega arith) (λ c. omega arith)
+    (λ c. omega arith) (λ c. omega arith) (λ c κs. tt) returns (λ c. omega arith) (λ c. omega arith) loop-again
+    (λ c. omega arith) returns-2)

@@ -6,21 +6,6 @@ use borrow.Author.Needs.{needs}
 use Rattle.recipe.proofs.usage.count.Statement.{statement}
 use Rattle.recipe.proofs.usage.count.Tie as tie
 
-cast-at : tie.Need-cast-at
-cast-at c = search needs
-
-element-copy-out-if1 : tie.Need-element-copy-out-if1
-element-copy-out-if1 c = search needs
-
-element-copy-out-counts : tie.Need-element-copy-out-counts
-element-copy-out-counts c = search needs
-
-add-counts : tie.Need-add-counts
-add-counts c = search needs
-
-element-write-counts : tie.Need-element-write-counts
-element-write-counts c = search needs
-
 returns : tie.Need-returns
 returns c = let s = c .before .before .before .before in
     counts-up (now (s .args .counts)) (s .args .row .0) (s .pre) (c .before .if1 .taken)
@@ -33,10 +18,5 @@ pub count-spec : {M : Type 1} → statement M
 count-spec =
     tie.close
     (tie.spec
-    cast-at
-    element-copy-out-if1
-    element-copy-out-counts
-    add-counts
-    element-write-counts
-    returns
+    (λ c. search needs) (λ c. search needs) (λ c. search needs) (λ c. search needs) (λ c. search needs) returns
     returns-2)

@@ -23,32 +23,11 @@ loop-holds : tie.Need-loop-holds Inv-loop μ-loop
 unfolding sumBelow
 loop-holds c = (omega arith, c .before .before .before .pre .1 .1)
 
-shared-slice-read-count-row : tie.Need-shared-slice-read-count-row Inv-loop μ-loop
-shared-slice-read-count-row c = omega arith
-
-mul-count-row : tie.Need-mul-count-row Inv-loop μ-loop
-mul-count-row c = omega arith
-
-shared-slice-read-count-row-2 : tie.Need-shared-slice-read-count-row-2 Inv-loop μ-loop
-shared-slice-read-count-row-2 c = omega arith
-
-mul-count-row-2 : tie.Need-mul-count-row-2 Inv-loop μ-loop
-mul-count-row-2 c = omega arith
-
-shared-slice-read-count-row-3 : tie.Need-shared-slice-read-count-row-3 Inv-loop μ-loop
-shared-slice-read-count-row-3 c = omega arith
-
 count-row-requires : tie.Need-count-row-requires Inv-loop μ-loop
 count-row-requires c κs i u =
     let turn = c .before .before .before .before in
     let start = turn .before .before .before .before .before in
     start .pre .1 .0 (turn .before .loop .i) i (turn .loop-test .taken) u
-
-add-i : tie.Need-add-i Inv-loop μ-loop
-add-i c = omega arith
-
-loop-less : tie.Need-loop-less Inv-loop μ-loop
-loop-less c = omega arith
 
 loop-again : tie.Need-loop-again Inv-loop μ-loop
 loop-again c =
@@ -64,16 +43,5 @@ pub count-children-spec : {M : Type 1} → statement M
 count-children-spec =
     tie.close
     (tie.spec
-    Inv-loop
-    μ-loop
-    loop-holds
-    shared-slice-read-count-row
-    mul-count-row
-    shared-slice-read-count-row-2
-    mul-count-row-2
-    shared-slice-read-count-row-3
-    count-row-requires
-    add-i
-    loop-less
-    loop-again
-    returns)
+    Inv-loop μ-loop loop-holds (λ c. omega arith) (λ c. omega arith) (λ c. omega arith) (λ c. omega arith)
+    (λ c. omega arith) count-row-requires (λ c. omega arith) (λ c. omega arith) loop-again returns)

@@ -24,20 +24,8 @@ loop-holds : tie.Need-loop-holds Inv-loop μ-loop
 unfolding sumBelow
 loop-holds c = (omega arith, λ met m. counts-same (now (c .before .args .counts)) met _ (λ i. sym (add-zero (met i))) m)
 
-mul-t4 : tie.Need-mul-t4 Inv-loop μ-loop
-mul-t4 c = omega arith
-
-shared-slice-read-t9 : tie.Need-shared-slice-read-t9 Inv-loop μ-loop
-shared-slice-read-t9 c = omega arith
-
 count-requires : tie.Need-count-requires Inv-loop μ-loop
 count-requires c κs = c .before .before .before .before .before .pre (c .before .before .before .loop .f) (omega arith)
-
-add-f : tie.Need-add-f Inv-loop μ-loop
-add-f c = omega arith
-
-loop-less : tie.Need-loop-less Inv-loop μ-loop
-loop-less c = omega arith
 
 loop-again : tie.Need-loop-again Inv-loop μ-loop
 loop-again c =
@@ -57,13 +45,5 @@ pub count-roots-spec : {M : Type 1} → statement M
 count-roots-spec =
     tie.close
     (tie.spec
-    Inv-loop
-    μ-loop
-    loop-holds
-    mul-t4
-    shared-slice-read-t9
-    count-requires
-    add-f
-    loop-less
-    loop-again
-    returns)
+    Inv-loop μ-loop loop-holds (λ c. omega arith) (λ c. omega arith) count-requires (λ c. omega arith)
+    (λ c. omega arith) loop-again returns)

@@ -18,26 +18,11 @@ abbrev μ-loop : tie.MeasureT-loop
 loop-holds : tie.Need-loop-holds Inv-loop μ-loop
 loop-holds c = passed-none _ _
 
-element-copy-out-if1 : tie.Need-element-copy-out-if1 Inv-loop μ-loop
-element-copy-out-if1 c = omega arith
-
-cast-t9 : tie.Need-cast-t9 Inv-loop μ-loop
-cast-t9 c = omega arith
-
 returns : tie.Need-returns Inv-loop μ-loop
 returns c = passed-found _ _ _ (c .before .before .before .loop .inv) (eq-eqb _ _ (c .if1 .taken))
 
-add-i : tie.Need-add-i Inv-loop μ-loop
-add-i c = omega arith
-
-loop-less : tie.Need-loop-less Inv-loop μ-loop
-loop-less c = omega arith
-
 loop-again : tie.Need-loop-again Inv-loop μ-loop
 loop-again c = passed-more _ _ _ (c .before .before .loop-test .taken) (c .before .before .before .loop .inv) (ne-eqb _ _ (c .if1 .left))
-
-cast-t10 : tie.Need-cast-t10 Inv-loop μ-loop
-cast-t10 c = omega arith
 
 returns-2 : tie.Need-returns-2 Inv-loop μ-loop
 returns-2 c = passed-all _ _ _ (c .before .loop .inv) (c .loop-test .left)
@@ -46,14 +31,5 @@ pub first-with-spec : {M : Type 1} → statement M
 first-with-spec =
     tie.close
     (tie.spec
-    Inv-loop
-    μ-loop
-    loop-holds
-    element-copy-out-if1
-    cast-t9
-    returns
-    add-i
-    loop-less
-    loop-again
-    cast-t10
-    returns-2)
+    Inv-loop μ-loop loop-holds (λ c. omega arith) (λ c. omega arith) returns (λ c. omega arith) (λ c. omega arith)
+    loop-again (λ c. omega arith) returns-2)

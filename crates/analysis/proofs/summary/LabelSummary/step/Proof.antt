@@ -6,14 +6,11 @@ use Rattle.analysis.specs.Summaries.{WordSummary}
 use Rattle.analysis.proofs.summary.LabelSummary.step.Statement.{statement}
 use Rattle.analysis.proofs.summary.LabelSummary.step.Tie as tie
 
-empty-requires : tie.Need-empty-requires
-empty-requires c κs = search needs
-
-alone-requires : tie.Need-alone-requires
-alone-requires c κs = search needs
-
 returns : tie.Need-returns
 returns c = (ap (λ (x : WordSummary). x .O) (c .before .empty .ensures), c .alone .ensures)
 
 pub step-spec : {M : Type 1} → statement M
-step-spec = tie.close (tie.spec empty-requires alone-requires returns)
+step-spec =
+    tie.close
+    (tie.spec
+    (λ c κs. search needs) (λ c κs. search needs) returns)

@@ -6,11 +6,11 @@ use Rattle.analysis.specs.Summaries.{WordSummary}
 use Rattle.analysis.proofs.summary.LabelSummary.waited.Statement.{statement}
 use Rattle.analysis.proofs.summary.LabelSummary.waited.Tie as tie
 
-empty-requires : tie.Need-empty-requires
-empty-requires c κs = search needs
-
 returns : tie.Need-returns
 returns c = (ap (λ (x : WordSummary). x .O) (c .empty .ensures), refl)
 
 pub waited-spec : {M : Type 1} → statement M
-waited-spec = tie.close (tie.spec empty-requires returns)
+waited-spec =
+    tie.close
+    (tie.spec
+    (λ c κs. search needs) returns)
