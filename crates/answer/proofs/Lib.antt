@@ -5,3 +5,4 @@ pub mod Answers
 pub mod Places
 pub mod Short
 pub mod Unique
+mod Examples

@@ -1,6 +1,6 @@
 -- The table that was read stands at the front of the slices that were lent for it, and is as long as the reply says.
 -- Assumes nothing.
-use mathlib.Core.Path.{_≡_, refl, sym, ap, _∙_, subst}
+use mathlib.Core.Path.{_≡_, refl, sym, ap, _∙_}
 use mathlib.Core.List.{List, map}
 use Prim.Native.Nat.{ℕ, _≤_}
 use native.Mathlib.Omega.{arith}
@@ -16,6 +16,7 @@ use Rattle.table.specs.Reading.{Reading, table, refused, rowsOf, rootsOf, reply
 use Rattle.table.specs.declared.Read.the-variants.{Stored, Refused}
 use Rattle.listing.specs.declared.Listed.{Listed}
 use Rattle.answer.specs.Answer.{refusalLine, answerToTable, answerToReading, Answered}
+use Rattle.answer.proofs.ReplyLaws.{answered-as}
 
 -- ---- what stands at the front of a list that it was laid on
 
@@ -35,7 +36,7 @@ module _ {new l : List ℕ} {n : ℕ} (b : Begins new l) (counted : n ≡ length
 
 refused-answer : (z : Size) (w : Reading) {r : Refusal} → replyOf w ≡ Refused r → answerToReading z w ≡ refusalLine r
 refused-answer z (table rows roots) e = let n : _≡_ {A = ℕ} 0 1 = cc in absurd (omega arith)
-refused-answer z (refused why) e = ap refusalLine (cc)
+refused-answer z (refused why) {r} e = let same : why ≡ r = cc in ap refusalLine same
 
 rows-stored : (w : Reading) {n m : ℕ} → replyOf w ≡ Stored n m → n ≡ length (rowsOf w)
 rows-stored (table rows roots) e = cc
@@ -53,7 +54,7 @@ stored-answer z (refused why) e = let n : _≡_ {A = ℕ} 0 1 = cc in absurd (om
 pub refused-replied :
     (z : Size) (w : Reading) {r : Refusal} {old new : List ℕ} {l : Listed} → replyOf w ≡ Refused r → Answered (refusalLine r) old l new
     → Answered (answerToReading z w) old l new
-refused-replied z w {old = old} {new} {l} e p = subst (λ (text : List ℕ). Answered text old l new) (sym (refused-answer z w e)) p
+refused-replied z w e a = answered-as (sym (refused-answer z w e)) a
 
 -- What is held after a reading: the reply, and the slices that were lent, each with what was read at its front.
 pub record StoredTable (w : Reading) (n m : ℕ) (kinds xs ys roots : List ℕ) : Type 0 where
@@ -93,7 +94,5 @@ module _ {w : Reading} {n m : ℕ} {kinds xs ys roots : List ℕ} (h : StoredTab
   pub table-replied :
       (z : Size) {old new : List ℕ} {r : Listed} → Answered (answerToTable z (tableOf (take n kinds) (take n xs) (take n ys) (take m roots))) old r new
       → Answered (answerToReading z w) old r new
-  table-replied z {old} {new} {r} p =
-      subst (λ (text : List ℕ). Answered text old r new)
-      (ap (λ (t : Table). answerToTable z t) table-read ∙ sym (stored-answer z w (h .reply)))
-      p
+  table-replied z a =
+      answered-as (ap (λ (t : Table). answerToTable z t) table-read ∙ sym (stored-answer z w (h .reply))) a

@@ -29,11 +29,15 @@ pub with-room :
     → Answered text old (reply.Length n) new
 with-room text old h e f = record { said = ap reply.Length e ∙ fits text (length old) h; held = f }
 
+-- The same text under another name.
+pub answered-as : {text other old new : List ℕ} {r : Listed} → text ≡ other → Answered text old r new → Answered other old r new
+answered-as {old = old} {new} {r} e a = subst (λ (s : List ℕ). Answered s old r new) e a
+
 -- What the judge says of a table picks the text that answers it.
 pub judged-reply :
     (z : Size) (t : Table) {j : Judged} {old new : List ℕ} {r : Listed} → judged z t ≡ j → Answered (answerBy z t j) old r new
     → Answered (answerToTable z t) old r new
-judged-reply z t {old = old} {new} {r} e h = subst (λ (k : Judged). Answered (answerBy z t k) old r new) (sym e) h
+judged-reply z t e a = answered-as (ap (answerBy z t) (sym e)) a
 
 module _ (z : Size) (t : Table) (words : ℕ) (ok : admitted z t) (whole : matrixWords (z .words) ≤ words) where
   admitted-still : judgedWith z t words ≡ Admitted

@@ -53,7 +53,7 @@ line-short : (r : Refusal) → refusalPlace r ≤ placeCeiling → length (refus
 line-short r h =
     omega (
       arith,
-      length-line r refl refl,
+      length-line (refusalNumber r) (refusalPlace r),
       spelled-short 1 (refusalNumber r) (number-short r),
       spelled-four (refusalPlace r) (omega arith),
     )

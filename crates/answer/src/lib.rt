@@ -7,7 +7,7 @@ ghost use Rattle.recipe.specs.Statements.{programOf};
 ghost use Rattle.recipe.specs.Tables.{tableOf};
 ghost use Rattle.text.specs.Putting.{Put};
 ghost use Rattle.listing.specs.Replies.{listingOf};
-ghost use Rattle.answer.specs.Answer.{refusalLine, answerToTable, answerTo, Answered};
+ghost use Rattle.answer.specs.Answer.{lineOf, refusalLine, answerToTable, answerTo, Answered};
 use listing::Listed;
 use numbers::MATRIX_WORDS;
 use numbers::ProcNumber;
@@ -17,20 +17,16 @@ use recipe::Judged;
 use table::Read;
 
 // The length of a refusal's line. Ten bytes are the same in each: `refused`, two tabs and the newline.
-fn line_length(refusal: Refusal) -> usize
-    ensures { λ r. ⌜ r ≡ length (refusalLine refusal) ⌝ }
+fn line_length(number: usize, place: usize) -> usize
+    ensures { λ r. ⌜ r ≡ length (lineOf number place) ⌝ }
 {
-    let number = refusal.number() as usize;
-    let place = refusal.place() as usize;
     text::digits(number) + text::digits(place) + 10
 }
 
 // Puts a refusal's line at the front of the bytes.
-fn put_line(bytes: &mut [u8], refusal: Refusal) -> usize
-    ensures { λ r. ⌜ Put (now (bytes .entry)) 0 (refusalLine refusal) (now (bytes .exit)) r ⌝ }
+fn put_line(bytes: &mut [u8], number: usize, place: usize) -> usize
+    ensures { λ r. ⌜ Put (now (bytes .entry)) 0 (lineOf number place) (now (bytes .exit)) r ⌝ }
 {
-    let number = refusal.number() as usize;
-    let place = refusal.place() as usize;
     let at = text::put_text(bytes, 0, b"refused", b'\t');
     let at = text::put_number(bytes, at, number, b'\t');
     text::put_number(bytes, at, place, b'\n')
@@ -40,11 +36,13 @@ fn put_line(bytes: &mut [u8], refusal: Refusal) -> usize
 fn refuse(bytes: &mut [u8], refusal: Refusal) -> Listed
     ensures { λ r. ⌜ Answered (refusalLine refusal) (now (bytes .entry)) r (now (bytes .exit)) ⌝ }
 {
-    let needed = line_length(refusal);
+    let number = refusal.number() as usize;
+    let place = refusal.place() as usize;
+    let needed = line_length(number, place);
     if bytes.len() < needed {
         return Listed::Refused(Refusal::LongListing);
     }
-    put_line(bytes, refusal);
+    put_line(bytes, number, place);
     Listed::Length(needed)
 }
 

@@ -6,18 +6,6 @@ use borrow.Author.Needs.{needs}
 use Rattle.answer.proofs.line_length.Statement.{statement}
 use Rattle.answer.proofs.line_length.Tie as tie
 
-number-requires : tie.Need-number-requires
-number-requires c κs = search needs
-
-cast-number : tie.Need-cast-number
-cast-number c = search needs
-
-place-requires : tie.Need-place-requires
-place-requires c κs = search needs
-
-cast-place : tie.Need-cast-place
-cast-place c = search needs
-
 digits-requires : tie.Need-digits-requires
 digits-requires c κs = search needs
 
@@ -32,24 +20,9 @@ add-result-2 c = search needs
 
 returns : tie.Need-returns
 returns c =
-    let known = c .before .before in
-    omega (
-      arith,
-      length-line (known .before .before .args .refusal) (known .before .number .ensures) (known .place .ensures),
-      c .before .digits .ensures .0,
-      c .digits2 .ensures .0,
-    )
+    let a = c .before .before .args in
+    omega (arith, length-line (a .number) (a .place), c .before .digits .ensures .0, c .digits2 .ensures .0)
 
 pub line-length-spec : {M : Type 1} → statement M
 line-length-spec =
-    tie.close
-    (tie.spec
-    number-requires
-    cast-number
-    place-requires
-    cast-place
-    digits-requires
-    digits-requires-2
-    add-result
-    add-result-2
-    returns)
+    tie.close (tie.spec digits-requires digits-requires-2 add-result add-result-2 returns)

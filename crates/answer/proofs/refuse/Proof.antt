@@ -1,23 +1,48 @@
 -- `refuse` meets its contract: the line is put where it fits, and else nothing is.
 -- Assumes nothing.
+use mathlib.Core.Path.{_≡_, ap₂}
+use mathlib.Core.List.{List}
 use native.Mathlib.Omega.{arith}
-use Prim.Native.Nat.{_≤_}
+use Prim.Native.Nat.{ℕ, _≤_}
 use denote.Ref.{now}
 use lib.ListN.{length}
 use Rattle.text.proofs.PutLaws.{put-front}
-use Rattle.answer.specs.Answer.{refusalLine}
-use Rattle.answer.proofs.ReplyLaws.{no-room, with-room}
+use Rattle.answer.specs.Answer.{lineOf, refusalLine}
+use Rattle.answer.proofs.ReplyLaws.{no-room, with-room, answered-as}
 use borrow.Author.Needs.{needs}
 use Rattle.answer.proofs.refuse.Statement.{statement}
 use Rattle.answer.proofs.refuse.Tie as tie
+
+-- From where number and place are known back to the entry.
+abbrev start : tie.After-place → tie.Start
+start c = c .before .before .before
+
+-- The line of the number and the place.
+abbrev text : tie.After-place → List ℕ
+text c = lineOf (c .before .number .result) (c .place .result)
+
+its-line : (c : tie.After-place) → text c ≡ refusalLine (start c .args .refusal)
+its-line c = ap₂ lineOf (c .before .number .ensures) (c .place .ensures)
+
+number-requires : tie.Need-number-requires
+number-requires c κs = search needs
+
+cast-number : tie.Need-cast-number
+cast-number c = search needs
+
+place-requires : tie.Need-place-requires
+place-requires c κs = search needs
+
+cast-place : tie.Need-cast-place
+cast-place c = search needs
 
 line-length-requires : tie.Need-line-length-requires
 line-length-requires c κs = search needs
 
 returns : tie.Need-returns
 returns c =
-    let a = c .before .before .before .args in
-    no-room (refusalLine (a .refusal)) (now (a .bytes)) (omega (arith, c .before .line-length .ensures))
+    let known = c .before .before in
+    answered-as (its-line known) (no-room (text known) (now (start known .args .bytes)) (omega (arith, c .before .line-length .ensures)))
 
 put-line-requires : tie.Need-put-line-requires
 put-line-requires c κs = search needs
@@ -28,11 +53,22 @@ same-length c = search needs
 returns-2 : tie.Need-returns-2
 returns-2 c =
     let found = c .before .before .before .before .before in
-    let a = found .before .before .args in
-    let room : length (refusalLine (a .refusal)) ≤ length (now (a .bytes)) =
-    omega (arith, found .line-length .ensures, c .before .before .before .before .if1 .left) in
-    with-room (refusalLine (a .refusal)) (now (a .bytes)) room (found .line-length .ensures) (put-front room (c .before .before .put-line .ensures))
+    let known = found .before in
+    let old = now (start known .args .bytes) in
+    let room : length (text known) ≤ length old = omega (arith, found .line-length .ensures, c .before .before .before .before .if1 .left) in
+    answered-as (its-line known)
+    (with-room (text known) old room (found .line-length .ensures) (put-front room (c .before .before .put-line .ensures)))
 
 pub refuse-spec : {M : Type 1} → statement M
 refuse-spec =
-    tie.close (tie.spec line-length-requires returns put-line-requires same-length returns-2)
+    tie.close
+    (tie.spec
+    number-requires
+    cast-number
+    place-requires
+    cast-place
+    line-length-requires
+    returns
+    put-line-requires
+    same-length
+    returns-2)
