@@ -47,30 +47,6 @@ held c =
       inRoots = record { old = _; over = given .1 .1 .1 .1 };
     }
 
-slice-aggregate-read-sheet : tie.Need-slice-aggregate-read-sheet
-slice-aggregate-read-sheet c = search needs
-
-slice-aggregate-read-sheet-2 : tie.Need-slice-aggregate-read-sheet-2
-slice-aggregate-read-sheet-2 c = search needs
-
-slice-aggregate-read-sheet-3 : tie.Need-slice-aggregate-read-sheet-3
-slice-aggregate-read-sheet-3 c = search needs
-
-slice-aggregate-read-sheet-4 : tie.Need-slice-aggregate-read-sheet-4
-slice-aggregate-read-sheet-4 c = search needs
-
-read-sheet-requires : tie.Need-read-sheet-requires
-read-sheet-requires c κs = search needs
-
-enum-known-refusal : tie.Need-enum-known-refusal
-enum-known-refusal c = search needs
-
-refuse-requires : tie.Need-refuse-requires
-refuse-requires c κs = search needs
-
-enum-known-rows : tie.Need-enum-known-rows
-enum-known-rows c = search needs
-
 array-share-prefix-kinds : tie.Need-array-share-prefix-kinds
 array-share-prefix-kinds c =
     kinds-within (held (at-table c))
@@ -103,21 +79,12 @@ slice-aggregate-answer-table-4 : tie.Need-slice-aggregate-answer-table-4
 slice-aggregate-answer-table-4 c =
     sym (length-take-le _ _ (roots-within (held (at-table (c .before .before .before .before)))))
 
-answer-table-requires : tie.Need-answer-table-requires
-answer-table-requires c κs = search needs
-
-same-length : tie.Need-same-length
-same-length c = search needs
-
 returns : tie.Need-returns
 unfolding answerTo
 returns c =
     let met = c .before .before .before .before .before in
     let said = read (met .before .before) in
     refused-replied ours (reading said) (sym (said .read-sheet .ensures .0) ∙ met .refusal .given .1) (c .before .before .refuse .ensures)
-
-same-length-2 : tie.Need-same-length-2
-same-length-2 c = search needs
 
 returns-2 : tie.Need-returns-2
 unfolding answerTo
@@ -128,24 +95,8 @@ pub answer-spec : {M : Type 1} → statement M
 answer-spec =
     tie.close
     (tie.spec
-    slice-aggregate-read-sheet
-    slice-aggregate-read-sheet-2
-    slice-aggregate-read-sheet-3
-    slice-aggregate-read-sheet-4
-    read-sheet-requires
-    enum-known-refusal
-    refuse-requires
-    enum-known-rows
-    array-share-prefix-kinds
-    slice-aggregate-answer-table
-    array-share-prefix-xs
-    slice-aggregate-answer-table-2
-    array-share-prefix-ys
-    slice-aggregate-answer-table-3
-    array-share-prefix-roots
-    slice-aggregate-answer-table-4
-    answer-table-requires
-    same-length
-    returns
-    same-length-2
-    returns-2)
+    (λ c. search needs) (λ c. search needs) (λ c. search needs) (λ c. search needs) (λ c κs. search needs)
+    (λ c. search needs) (λ c κs. search needs) (λ c. search needs) array-share-prefix-kinds
+    slice-aggregate-answer-table array-share-prefix-xs slice-aggregate-answer-table-2 array-share-prefix-ys
+    slice-aggregate-answer-table-3 array-share-prefix-roots slice-aggregate-answer-table-4 (λ c κs. search needs)
+    (λ c. search needs) returns (λ c. search needs) returns-2)

@@ -17,33 +17,15 @@ table s = tableOf (now (s .args .kinds)) (now (s .args .xs)) (now (s .args .ys))
 abbrev start : tie.After-shared-slice-known4 → tie.Start
 start c = c .before .before .before .before .before
 
-judge-requires : tie.Need-judge-requires
-judge-requires c κs = search needs
-
-enum-known-refusal : tie.Need-enum-known-refusal
-enum-known-refusal c = search needs
-
-refuse-requires : tie.Need-refuse-requires
-refuse-requires c κs = search needs
-
-enum-told : tie.Need-enum-told
-enum-told c = search needs
-
 list-requires : tie.Need-list-requires
 list-requires c κs =
     sym (c .before .before .before .judge .ensures) ∙ c .before .enum-told .given .1
-
-same-length : tie.Need-same-length
-same-length c = search needs
 
 returns : tie.Need-returns
 returns c =
     let met = c .before .before .before .before .before in
     let said = met .before .before in
     judged-reply ours (table (start (said .before))) (sym (said .judge .ensures) ∙ met .refusal .given .1) (c .before .before .refuse .ensures)
-
-same-length-2 : tie.Need-same-length-2
-same-length-2 c = search needs
 
 returns-2 : tie.Need-returns-2
 returns-2 c =
@@ -55,12 +37,5 @@ pub answer-table-spec : {M : Type 1} → statement M
 answer-table-spec =
     tie.close
     (tie.spec
-    judge-requires
-    enum-known-refusal
-    refuse-requires
-    enum-told
-    list-requires
-    same-length
-    returns
-    same-length-2
-    returns-2)
+    (λ c κs. search needs) (λ c. search needs) (λ c κs. search needs) (λ c. search needs) list-requires
+    (λ c. search needs) returns (λ c. search needs) returns-2)

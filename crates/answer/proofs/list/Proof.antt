@@ -19,15 +19,6 @@ from-call c = c .before .before .before
 abbrev start : tie.After-shared-slice-known4 → tie.Start
 start c = c .before .before .before .before .before
 
-slice-aggregate-list-pairs : tie.Need-slice-aggregate-list-pairs
-slice-aggregate-list-pairs c = search needs
-
-list-pairs-requires : tie.Need-list-pairs-requires
-list-pairs-requires c κs = search needs
-
-same-length : tie.Need-same-length
-same-length c = search needs
-
 returns : tie.Need-returns
 returns c =
     let s = start (from-call (call c)) in
@@ -37,4 +28,7 @@ returns c =
     listing-replied ours t (matrixWords (ours .words)) (s .pre) (le-refl (matrixWords (ours .words))) (now (a .bytes)) (given .0) (given .1 .1)
 
 pub list-spec : {M : Type 1} → statement M
-list-spec = tie.close (tie.spec slice-aggregate-list-pairs list-pairs-requires same-length returns)
+list-spec =
+    tie.close
+    (tie.spec
+    (λ c. search needs) (λ c κs. search needs) (λ c. search needs) returns)

@@ -24,31 +24,10 @@ text c = lineOf (c .before .number .result) (c .place .result)
 its-line : (c : tie.After-place) → text c ≡ refusalLine (start c .args .refusal)
 its-line c = ap₂ lineOf (c .before .number .ensures) (c .place .ensures)
 
-number-requires : tie.Need-number-requires
-number-requires c κs = search needs
-
-cast-number : tie.Need-cast-number
-cast-number c = search needs
-
-place-requires : tie.Need-place-requires
-place-requires c κs = search needs
-
-cast-place : tie.Need-cast-place
-cast-place c = search needs
-
-line-length-requires : tie.Need-line-length-requires
-line-length-requires c κs = search needs
-
 returns : tie.Need-returns
 returns c =
     let known = c .before .before in
     answered-as (its-line known) (no-room (text known) (now (start known .args .bytes)) (omega (arith, c .before .line-length .ensures)))
-
-put-line-requires : tie.Need-put-line-requires
-put-line-requires c κs = search needs
-
-same-length : tie.Need-same-length
-same-length c = search needs
 
 returns-2 : tie.Need-returns-2
 returns-2 c =
@@ -63,12 +42,5 @@ pub refuse-spec : {M : Type 1} → statement M
 refuse-spec =
     tie.close
     (tie.spec
-    number-requires
-    cast-number
-    place-requires
-    cast-place
-    line-length-requires
-    returns
-    put-line-requires
-    same-length
-    returns-2)
+    (λ c κs. search needs) (λ c. search needs) (λ c κs. search needs) (λ c. search needs) (λ c κs. search needs)
+    returns (λ c κs. search needs) (λ c. search needs) returns-2)

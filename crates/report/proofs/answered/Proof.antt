@@ -37,26 +37,11 @@ stands :
 stands c =
     let s = c .before .before .before .before in answer-stands (now (s .args .sheet)) (now (s .args .bytes)) (s .pre) (c .answer .ensures)
 
-answer-requires : tie.Need-answer-requires
-answer-requires c κs = search needs
-
-enum-known-n : tie.Need-enum-known-n
-enum-known-n c = search needs
-
-enum-told : tie.Need-enum-told
-enum-told c = search needs
-
-same-length : tie.Need-same-length
-same-length c = search needs
-
 returns : tie.Need-returns
 returns c =
     let met = c .before .before .before .before .before in
     front-given (text (met .before .before .before .before)) (now (met .before .before .before .before .args .bytes))
     (sym (c .before .n .given .1) ∙ stands met .0) (stands met .1)
-
-same-length-2 : tie.Need-same-length-2
-same-length-2 c = search needs
 
 returns-2 : tie.Need-returns-2
 returns-2 c =
@@ -66,4 +51,6 @@ returns-2 c =
 pub answered-spec : {M : Type 1} → statement M
 answered-spec =
     tie.close
-    (tie.spec answer-requires enum-known-n enum-told same-length returns same-length-2 returns-2)
+    (tie.spec
+    (λ c κs. search needs) (λ c. search needs) (λ c. search needs) (λ c. search needs) returns (λ c. search needs)
+    returns-2)

@@ -28,25 +28,13 @@ loop-holds c = (omega arith, refl)
 more-requires : tie.Need-more-requires Inv-loop μ-loop
 more-requires c κs = c .before .before .loop .inv .0
 
-enum-told : tie.Need-enum-told Inv-loop μ-loop
-enum-told c = search needs
-
 same-length : tie.Need-same-length Inv-loop μ-loop
 same-length c =
     let read = c .before .before .before .before in read .more .kept .0 ∙ turn read .before .loop .inv .1
 
-returns : tie.Need-returns Inv-loop μ-loop
-returns c = search needs
-
-enum-known-n : tie.Need-enum-known-n Inv-loop μ-loop
-enum-known-n c = search needs
-
 same-length-2 : tie.Need-same-length-2 Inv-loop μ-loop
 same-length-2 c =
     let read = piece (c .before .before) in read .more .kept .0 ∙ turn read .before .loop .inv .1
-
-returns-2 : tie.Need-returns-2 Inv-loop μ-loop
-returns-2 c = search needs
 
 add-done : tie.Need-add-done Inv-loop μ-loop
 add-done c =
@@ -72,25 +60,10 @@ loop-again c =
 same-length-3 : tie.Need-same-length-3 Inv-loop μ-loop
 same-length-3 c = c .before .loop .inv .1
 
-returns-3 : tie.Need-returns-3 Inv-loop μ-loop
-returns-3 c = search needs
-
 pub take-in-spec : {M : Type 1} → statement M
 take-in-spec =
     tie.close
     (tie.spec
-    Inv-loop
-    μ-loop
-    loop-holds
-    more-requires
-    enum-told
-    same-length
-    returns
-    enum-known-n
-    same-length-2
-    returns-2
-    add-done
-    loop-less
-    loop-again
-    same-length-3
-    returns-3)
+    Inv-loop μ-loop loop-holds more-requires (λ c. search needs) same-length (λ c. search needs)
+    (λ c. search needs) same-length-2 (λ c. search needs) add-done loop-less loop-again same-length-3
+    (λ c. search needs))
