@@ -9,18 +9,18 @@ use Rattle.text.specs.Numbers.{spelled, spelledIn}
 use Rattle.recipe.specs.Rules.{sizesRight, operandsRight, judgedBy, judged}
 use Rattle.sheet.specs.Lines.{keywordFrom, rowLineAt, rootLineAt, lineAt}
 use Rattle.sheet.specs.Reading.{stepOf, readLines, readSheet}
-use Rattle.answer.specs.Answer.{lineOf, answerTo}
+use Rattle.answer.specs.Answer.{refusedLine, answerTo}
 
 wrong-line : answerTo ours (ascii "R\tskip\t0\t0\nR\tskip\t0\t00\n") ≡ ascii "refused\t12\t1\n"
-unfolding answerTo lineOf spelled spelledIn readSheet readLines stepOf lineAt rowLineAt textAt keywordFrom numberAt digitsAt digitsAfter isDigit
+unfolding answerTo refusedLine spelled spelledIn readSheet readLines stepOf lineAt rowLineAt textAt keywordFrom numberAt digitsAt digitsAfter isDigit
 wrong-line = refl
 
 no-lines : answerTo ours (ascii "") ≡ ascii "refused\t1\t0\n"
-unfolding answerTo lineOf spelled spelledIn readSheet readLines stepOf lineAt judged judgedBy sizesRight lowest
+unfolding answerTo refusedLine spelled spelledIn readSheet readLines stepOf lineAt judged judgedBy sizesRight lowest
 no-lines = refl
 
 no-such-row : answerTo ours (ascii "R\tskip\t0\t0\nP\t0\nP\t7\n") ≡ ascii "refused\t5\t1\n"
 unfolding
-    answerTo lineOf spelled spelledIn readSheet readLines stepOf lineAt rowLineAt rootLineAt textAt keywordFrom numberAt digitsAt digitsAfter isDigit
+    answerTo refusedLine spelled spelledIn readSheet readLines stepOf lineAt rowLineAt rootLineAt textAt keywordFrom numberAt digitsAt digitsAfter isDigit
     judged judgedBy sizesRight operandsRight lowest
 no-such-row = refl

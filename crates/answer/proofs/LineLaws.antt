@@ -9,12 +9,12 @@ use Rattle.text.specs.Bytes.{ascii, tab, newline}
 use Rattle.text.specs.Numbers.{spelled}
 use Rattle.text.specs.Putting.{Put}
 use Rattle.text.proofs.LineLaws.{ended, length-ended, length-first, put-first}
-use Rattle.answer.specs.Answer.{lineOf}
+use Rattle.answer.specs.Answer.{refusedLine}
 
 module _ (n p : ℕ) where
-  pub length-line : length (lineOf n p) ≡ length (spelled n) + length (spelled p) + 10
-  unfolding lineOf
-  length-line =
+  pub length-refused : length (refusedLine n p) ≡ length (spelled n) + length (spelled p) + 10
+  unfolding refusedLine
+  length-refused =
       omega (
         arith,
         length-first (ascii "refused") (spelled n) (spelled p ∷ []),
@@ -22,8 +22,8 @@ module _ (n p : ℕ) where
         length-ended (spelled p) newline,
       )
 
-  pub line-put :
+  pub put-refused :
       {a b c d : List ℕ} {at next behind end : ℕ} → Put a at (ended (ascii "refused") tab) b next → Put b next (ended (spelled n) tab) c behind
-      → Put c behind (ended (spelled p) newline) d end → Put a at (lineOf n p) d end
-  unfolding lineOf
-  line-put x y z = put-first (ascii "refused") (spelled n) (spelled p ∷ []) x (put-first (spelled n) (spelled p) [] y z)
+      → Put c behind (ended (spelled p) newline) d end → Put a at (refusedLine n p) d end
+  unfolding refusedLine
+  put-refused x y z = put-first (ascii "refused") (spelled n) (spelled p ∷ []) x (put-first (spelled n) (spelled p) [] y z)

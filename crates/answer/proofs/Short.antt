@@ -29,7 +29,7 @@ use Rattle.listing.specs.declared.Listed.the-variants as reply
 use Rattle.listing.proofs.ReplyLaws.{fits}
 use Rattle.listing.proofs.Sizes.{recipe-listing-short}
 use Rattle.answer.specs.Answer.{refusalLine, answerBy, answerToReading, answerTo, Answered}
-use Rattle.answer.proofs.LineLaws.{length-line}
+use Rattle.answer.proofs.LineLaws.{length-refused}
 use Rattle.answer.proofs.Places.{ReadWithin, line-within, JudgedWithin, place-within}
 
 number-short : (r : Refusal) → refusalNumber r < 100
@@ -53,7 +53,7 @@ line-short : (r : Refusal) → refusalPlace r ≤ placeCeiling → length (refus
 line-short r h =
     omega (
       arith,
-      length-line (refusalNumber r) (refusalPlace r),
+      length-refused (refusalNumber r) (refusalPlace r),
       spelled-short 1 (refusalNumber r) (number-short r),
       spelled-four (refusalPlace r) (omega arith),
     )

@@ -22,12 +22,12 @@ use Rattle.listing.specs.Replies.{listingOf, fitted, heldAfter}
 use Rattle.listing.specs.declared.Listed.{Listed}
 
 -- The line that tells a number and a place of refusal.
-unfoldable pub lineOf : ℕ → ℕ → List ℕ
-lineOf number place = line (ascii "refused") (spelled number ∷ spelled place ∷ [])
+unfoldable pub refusedLine : ℕ → ℕ → List ℕ
+refusedLine number place = line (ascii "refused") (spelled number ∷ spelled place ∷ [])
 
 -- The line of a refusal.
 abbrev pub refusalLine : Refusal → List ℕ
-refusalLine r = lineOf (refusalNumber r) (refusalPlace r)
+refusalLine r = refusedLine (refusalNumber r) (refusalPlace r)
 
 -- The text that answers a table of which the judge says this: the listing, or the line of the refusal.
 abbrev pub answerBy : Size → Table → Judged → List ℕ

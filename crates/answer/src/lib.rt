@@ -7,7 +7,7 @@ ghost use Rattle.recipe.specs.Statements.{programOf};
 ghost use Rattle.recipe.specs.Tables.{tableOf};
 ghost use Rattle.text.specs.Putting.{Put};
 ghost use Rattle.listing.specs.Replies.{listingOf};
-ghost use Rattle.answer.specs.Answer.{lineOf, refusalLine, answerToTable, answerTo, Answered};
+ghost use Rattle.answer.specs.Answer.{refusedLine, refusalLine, answerToTable, answerTo, Answered};
 use listing::Listed;
 use numbers::MATRIX_WORDS;
 use numbers::ProcNumber;
@@ -17,15 +17,15 @@ use recipe::Judged;
 use table::Read;
 
 // The length of a refusal's line. Ten bytes are the same in each: `refused`, two tabs and the newline.
-fn line_length(number: usize, place: usize) -> usize
-    ensures { λ r. ⌜ r ≡ length (lineOf number place) ⌝ }
+fn refusal_length(number: usize, place: usize) -> usize
+    ensures { λ r. ⌜ r ≡ length (refusedLine number place) ⌝ }
 {
     text::digits(number) + text::digits(place) + 10
 }
 
 // Puts a refusal's line at the front of the bytes.
-fn put_line(bytes: &mut [u8], number: usize, place: usize) -> usize
-    ensures { λ r. ⌜ Put (now (bytes .entry)) 0 (lineOf number place) (now (bytes .exit)) r ⌝ }
+fn put_refusal(bytes: &mut [u8], number: usize, place: usize) -> usize
+    ensures { λ r. ⌜ Put (now (bytes .entry)) 0 (refusedLine number place) (now (bytes .exit)) r ⌝ }
 {
     let at = text::put_text(bytes, 0, b"refused", b'\t');
     let at = text::put_number(bytes, at, number, b'\t');
@@ -38,11 +38,11 @@ fn refuse(bytes: &mut [u8], refusal: Refusal) -> Listed
 {
     let number = refusal.number() as usize;
     let place = refusal.place() as usize;
-    let needed = line_length(number, place);
+    let needed = refusal_length(number, place);
     if bytes.len() < needed {
         return Listed::Refused(Refusal::LongListing);
     }
-    put_line(bytes, number, place);
+    put_refusal(bytes, number, place);
     Listed::Length(needed)
 }
 

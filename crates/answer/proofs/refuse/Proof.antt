@@ -7,7 +7,7 @@ use Prim.Native.Nat.{ℕ, _≤_}
 use denote.Ref.{now}
 use lib.ListN.{length}
 use Rattle.text.proofs.PutLaws.{put-front}
-use Rattle.answer.specs.Answer.{lineOf, refusalLine}
+use Rattle.answer.specs.Answer.{refusedLine, refusalLine}
 use Rattle.answer.proofs.ReplyLaws.{no-room, with-room, answered-as}
 use borrow.Author.Needs.{needs}
 use Rattle.answer.proofs.refuse.Statement.{statement}
@@ -19,24 +19,24 @@ start c = c .before .before .before
 
 -- The line of the number and the place.
 abbrev text : tie.After-place → List ℕ
-text c = lineOf (c .before .number .result) (c .place .result)
+text c = refusedLine (c .before .number .result) (c .place .result)
 
 its-line : (c : tie.After-place) → text c ≡ refusalLine (start c .args .refusal)
-its-line c = ap₂ lineOf (c .before .number .ensures) (c .place .ensures)
+its-line c = ap₂ refusedLine (c .before .number .ensures) (c .place .ensures)
 
 returns : tie.Need-returns
 returns c =
     let known = c .before .before in
-    answered-as (its-line known) (no-room (text known) (now (start known .args .bytes)) (omega (arith, c .before .line-length .ensures)))
+    answered-as (its-line known) (no-room (text known) (now (start known .args .bytes)) (omega (arith, c .before .refusal-length .ensures)))
 
 returns-2 : tie.Need-returns-2
 returns-2 c =
     let found = c .before .before .before .before .before in
     let known = found .before in
     let old = now (start known .args .bytes) in
-    let room : length (text known) ≤ length old = omega (arith, found .line-length .ensures, c .before .before .before .before .if1 .left) in
+    let room : length (text known) ≤ length old = omega (arith, found .refusal-length .ensures, c .before .before .before .before .if1 .left) in
     answered-as (its-line known)
-    (with-room (text known) old room (found .line-length .ensures) (put-front room (c .before .before .put-line .ensures)))
+    (with-room (text known) old room (found .refusal-length .ensures) (put-front room (c .before .before .put-refusal .ensures)))
 
 pub refuse-spec : {M : Type 1} → statement M
 refuse-spec =
