@@ -8,12 +8,19 @@ use borrow.Author.Needs.{needs}
 use Rattle.panel.proofs.bushkalote_read_sheet.Statement.{statement}
 use Rattle.panel.proofs.bushkalote_read_sheet.Tie as tie
 
+-- The slices come back one by one.
+abbrev come-back : tie.After-xs → tie.After-read-sheet
+come-back c = c .before .before .before
+
+abbrev all-back : tie.After-slice-known8 → tie.After-read-sheet
+all-back c = come-back (c .before .before .before .before .before)
+
 read-sheet-requires : tie.Need-read-sheet-requires
 read-sheet-requires c κs = search needs
 
 read-code-requires : tie.Need-read-code-requires
 read-code-requires c κs =
-    let read = c .before .before .before .before .before .before .before .before .read-sheet .ensures in
+    let read = all-back c .read-sheet .ensures in
     subst WithinCeilings (sym (read .0)) (reading-within _ _ _)
 
 same-length : tie.Need-same-length
@@ -30,7 +37,7 @@ same-length-4 c = search needs
 
 returns : tie.Need-returns
 returns c =
-    let read = c .before .before .before .before .before .before .before .before .before .read-sheet .ensures in
+    let read = all-back (c .before) .read-sheet .ensures in
     (c .read-code .ensures ∙ ap readCode (read .0), read .1)
 
 pub bushkalote-read-sheet-spec : {M : Type 1} → statement M

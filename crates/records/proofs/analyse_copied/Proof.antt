@@ -13,26 +13,35 @@ use borrow.Author.Needs.{needs}
 use Rattle.records.proofs.analyse_copied.Statement.{statement}
 use Rattle.records.proofs.analyse_copied.Tie as tie
 
+-- What was passed, from where it is not too much and from where the columns are taken apart.
+abbrev passed : tie.Else1 → tie.Start
+passed c = c .before .before .before
+
+abbrev apart : tie.After-ys → tie.Start
+apart c = passed (c .before .before .before)
+
+abbrev lent : tie.After-ys2 → tie.Start
+lent c = apart (c .before .before .before)
+
 returns : tie.Need-returns
 returns c =
     let a = c .before .before .before .args in
     λ rows e copied. too-many ours rows (now (a .roots)) (now (a .matrix)) (omega arith)
 
 array-share-prefix-kinds : tie.Need-array-share-prefix-kinds
-array-share-prefix-kinds c = let e : length (c .before .before .before .before .before .before .args .all .kinds) ≡ rowCeiling = search needs in omega arith
+array-share-prefix-kinds c = let e : length (apart c .args .all .kinds) ≡ rowCeiling = search needs in omega arith
 
 slice-aggregate-analyse : tie.Need-slice-aggregate-analyse
 slice-aggregate-analyse c = first-n _ _ (search needs) (omega arith)
 
 array-share-prefix-xs : tie.Need-array-share-prefix-xs
-array-share-prefix-xs c = let e : length (c .before .before .before .before .before .before .before .args .all .xs) ≡ rowCeiling = search needs in omega arith
+array-share-prefix-xs c = let e : length (apart (c .before) .args .all .xs) ≡ rowCeiling = search needs in omega arith
 
 slice-aggregate-analyse-2 : tie.Need-slice-aggregate-analyse-2
 slice-aggregate-analyse-2 c = first-n _ _ (search needs) (omega arith)
 
 array-share-prefix-ys : tie.Need-array-share-prefix-ys
-array-share-prefix-ys c = let e : length (c .before .before .before .before .before .before .before .before .args .all .ys) ≡ rowCeiling = search needs in
-    omega arith
+array-share-prefix-ys c = let e : length (apart (c .before .before) .args .all .ys) ≡ rowCeiling = search needs in omega arith
 
 slice-aggregate-analyse-3 : tie.Need-slice-aggregate-analyse-3
 slice-aggregate-analyse-3 c = first-n _ _ (search needs) (omega arith)
@@ -45,11 +54,12 @@ same-length c = search needs
 
 returns-2 : tie.Need-returns-2
 returns-2 c =
-    let a = c .before .before .before .before .before .before .before .before .before .before .before .before .before .args in
+    let worked = c .before .before in
+    let a = lent (worked .before .before) .args in
     λ rows e copied.
     let same = first-are (a .n) rows (omega arith) e (a .all) (now (a .roots)) copied in (
-      c .before .before .analyse .ensures .0 ∙ ap (λ (t : Table). analysed ours t (length (now (a .matrix)))) same,
-      c .before .before .analyse .ensures .1 ∙ ap (λ (t : Table). matrixAfter ours t (now (a .matrix))) same,
+      worked .analyse .ensures .0 ∙ ap (λ (t : Table). analysed ours t (length (now (a .matrix)))) same,
+      worked .analyse .ensures .1 ∙ ap (λ (t : Table). matrixAfter ours t (now (a .matrix))) same,
     )
 
 pub analyse-copied-spec : {M : Type 1} → statement M

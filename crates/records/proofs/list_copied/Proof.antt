@@ -13,28 +13,35 @@ use borrow.Author.Needs.{needs}
 use Rattle.records.proofs.list_copied.Statement.{statement}
 use Rattle.records.proofs.list_copied.Tie as tie
 
+-- What was passed, from where it is not too much and from where the columns are taken apart.
+abbrev passed : tie.Else1 → tie.Start
+passed c = c .before .before .before .before
+
+abbrev apart : tie.After-ys → tie.Start
+apart c = passed (c .before .before .before)
+
+abbrev lent : tie.After-ys2 → tie.Start
+lent c = apart (c .before .before .before)
+
 returns : tie.Need-returns
 returns c =
     let a = c .before .before .before .before .args in
     λ rows e copied. too-many-listed ours rows (now (a .roots)) (now (a .matrix)) (omega arith) (now (a .bytes))
 
 array-share-prefix-kinds : tie.Need-array-share-prefix-kinds
-array-share-prefix-kinds c = let e : length (c .before .before .before .before .before .before .before .args .all .kinds) ≡ rowCeiling = search needs in
-    omega arith
+array-share-prefix-kinds c = let e : length (apart c .args .all .kinds) ≡ rowCeiling = search needs in omega arith
 
 slice-aggregate-list-pairs : tie.Need-slice-aggregate-list-pairs
 slice-aggregate-list-pairs c = first-n _ _ (search needs) (omega arith)
 
 array-share-prefix-xs : tie.Need-array-share-prefix-xs
-array-share-prefix-xs c = let e : length (c .before .before .before .before .before .before .before .before .args .all .xs) ≡ rowCeiling = search needs in
-    omega arith
+array-share-prefix-xs c = let e : length (apart (c .before) .args .all .xs) ≡ rowCeiling = search needs in omega arith
 
 slice-aggregate-list-pairs-2 : tie.Need-slice-aggregate-list-pairs-2
 slice-aggregate-list-pairs-2 c = first-n _ _ (search needs) (omega arith)
 
 array-share-prefix-ys : tie.Need-array-share-prefix-ys
-array-share-prefix-ys c = let e : length (c .before .before .before .before .before .before .before .before .before .args .all .ys) ≡ rowCeiling = search
-    needs in omega arith
+array-share-prefix-ys c = let e : length (apart (c .before .before) .args .all .ys) ≡ rowCeiling = search needs in omega arith
 
 slice-aggregate-list-pairs-3 : tie.Need-slice-aggregate-list-pairs-3
 slice-aggregate-list-pairs-3 c = first-n _ _ (search needs) (omega arith)
@@ -50,8 +57,9 @@ same-length-2 c = search needs
 
 returns-2 : tie.Need-returns-2
 returns-2 c =
-    let a = c .before .before .before .before .before .before .before .before .before .before .before .before .before .before .before .before .before .args in
-    let given = c .before .before .before .before .list-pairs .ensures in
+    let worked = c .before .before .before .before in
+    let a = lent (worked .before .before .before) .args in
+    let given = worked .list-pairs .ensures in
     λ rows e copied.
     let same = first-are (a .n) rows (omega arith) e (a .all) (now (a .roots)) copied in (
       given .0 ∙ ap (λ (t : Table). listed ours t (length (now (a .matrix))) (length (now (a .bytes)))) same,

@@ -24,12 +24,18 @@ Inv-loop bytes room rows₀ roots₀ at₀ n₀ m₀ rows roots at n m = Kept by
 abbrev μ-loop : tie.MeasureT-loop
 μ-loop bytes room rows₀ roots₀ at₀ n₀ m₀ rows roots at n m = (room .rows - n) + (room .roots - m)
 
--- At the loop's head: the bytes and the room.
+-- At the loop's head: what was passed, the bytes and the room.
+abbrev sized : tie.At-loop Inv-loop μ-loop → tie.After-within-ceilings Inv-loop μ-loop
+sized c = c .before .before .before
+
+abbrev start : tie.At-loop Inv-loop μ-loop → tie.Start Inv-loop μ-loop
+start c = sized c .before .before .before
+
 abbrev bytes : tie.At-loop Inv-loop μ-loop → List ℕ
-bytes c = now (c .before .before .before .before .before .before .args .bytes)
+bytes c = now (start c .args .bytes)
 
 abbrev room : tie.At-loop Inv-loop μ-loop → Room
-room c = c .before .before .before .within-ceilings .result
+room c = sized c .within-ceilings .result
 
 -- What is done with the line is right.
 abbrev Right : tie.After-step-at Inv-loop μ-loop → Step → Type 0
@@ -53,11 +59,11 @@ root-next c = right (c .before .before .before) (c .before .root .given .1)
 -- The sheet is short enough, so the reading is that of its lines.
 opened :
     (c : tie.At-loop Inv-loop μ-loop)
-    → let a = c .before .before .before .before .before .before .args in
+    → let a = start c .args in
     readSheet ours (a .places .rows) (a .places .roots) (now (a .bytes)) ≡ whole (bytes c) (room c .rows) (room c .roots)
 opened c =
-    let fits = c .before .before .before .within-ceilings .ensures in
-    sheet-opened ours _ _ _ (c .before .before .before .before .if1 .left) (fits .0) (fits .1)
+    let fits = sized c .within-ceilings .ensures in
+    sheet-opened ours _ _ _ (sized c .before .if1 .left) (fits .0) (fits .1)
 
 refusal-requires : tie.Need-refusal-requires Inv-loop μ-loop
 refusal-requires c κs = search needs

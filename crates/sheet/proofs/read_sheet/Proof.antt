@@ -18,8 +18,11 @@ use Rattle.sheet.proofs.read_sheet.Statement.{statement}
 use Rattle.sheet.proofs.read_sheet.Tie as tie
 
 -- The reading that the contract names is what is held: the shortest of the three slices was passed on.
+abbrev lent : tie.After-slice-known4 → tie.Start
+lent c = c .before .before .before .before .before
+
 abbrev start : tie.After-hold-sheet → tie.Start
-start c = c .before .before .before .before .before .before .before .before
+start c = lent (c .before .before .before)
 
 abbrev whole : tie.After-hold-sheet → Reading
 whole c =
@@ -31,6 +34,10 @@ held c =
     c .hold-sheet .ensures
     ∙ ap (λ (k : ℕ). heldOf (readSheet ours k (length (now (a .roots))) (now (a .bytes))))
     (c .before .least2 .ensures ∙ ap (min (length (now (a .kinds)))) (c .before .before .least .ensures))
+
+-- The slices come back one by one.
+abbrev come-back : tie.After-xs → tie.After-store-rows
+come-back c = c .before .before .before
 
 least-requires : tie.Need-least-requires
 least-requires c κs = search needs
@@ -65,7 +72,7 @@ same-length-4 c = search needs
 returns : tie.Need-returns
 returns c =
     let roots-stored = c .before .before in
-    let rows-stored = roots-stored .before .before .before .before .before .before .before .before in
+    let rows-stored = come-back (roots-stored .before .before .before .before .before) in
     let told = rows-stored .before .before .before .before in
     let read = told .before .before .before in
     let count = told .reported .ensures in

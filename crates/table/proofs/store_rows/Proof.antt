@@ -37,6 +37,10 @@ Inv-loop kinds₀ xs₀ ys₀ n rows places m i₀ kinds xs ys i =
 abbrev μ-loop : tie.MeasureT-loop
 μ-loop kinds₀ xs₀ ys₀ n rows places m i₀ kinds xs ys i = m - i
 
+-- What was passed, from where the shortest slice is known.
+abbrev lent : tie.After-least Inv-loop μ-loop → tie.Start Inv-loop μ-loop
+lent c = c .before .before .before .before
+
 least-requires : tie.Need-least-requires Inv-loop μ-loop
 least-requires c κs = search needs
 
@@ -92,14 +96,14 @@ same-length-3 c = c .before .loop .inv .1 .1 .1 .size
 
 returns : tie.Need-returns Inv-loop μ-loop
 returns c =
-    let start = c .before .before .before .before .before .before .before .before in
-    let a = start .args in
+    let many = c .before .before in
+    let a = lent (many .before .before) .args in
     let held = c .before .loop .inv .1 in
-    let all : c .before .loop .i ≡ c .before .before .rows-stored .result = omega arith in
+    let all : c .before .loop .i ≡ many .rows-stored .result = omega arith in
     let full : length (a .t4) ≡ rowCeiling = search needs in
     let places = rowPlaces (now (a .kinds)) (now (a .xs)) (now (a .ys)) in
     let n = min (a .n) places in
-    let right : c .before .before .rows-stored .result ≡ min (min (a .n) rowCeiling) places = cc in (
+    let right : many .rows-stored .result ≡ min (min (a .n) rowCeiling) places = cc in (
       storing-ends kind blank n (held .0) all (right ∙ as-many (a .n) places (a .t4) (now (a .kinds)) full (omega arith)),
       (
         storing-ends first blank n (held .1 .0) all (right ∙ as-many (a .n) places (a .t4) (now (a .xs)) full (omega arith)),

@@ -12,19 +12,23 @@ use Rattle.sheet.proofs.LineLaws.{sheet-ends, begins-row, begins-root, 
 use Rattle.sheet.proofs.lines.line_at.Statement.{statement}
 use Rattle.sheet.proofs.lines.line_at.Tie as tie
 
+-- What was passed.
+abbrev start : tie.After-text-at → tie.Start
+start c = c .before .before .before .before
+
 -- What the two marks are by their definitions.
 row-mark :
     (c : tie.After-text-at)
-    → let a = c .before .before .before .before .args in
+    → let a = start c .args in
     fieldOf (now (a .bytes)) (c .text-at .result) ≡ textAt rowMark 0 (drop (a .at) (now (a .bytes)))
-row-mark c = let a = c .before .before .before .before .args in text-field (now (a .bytes)) (a .at) rowMark 0 (c .text-at .ensures)
+row-mark c = let a = start c .args in text-field (now (a .bytes)) (a .at) rowMark 0 (c .text-at .ensures)
 
 root-mark :
     (c : tie.After-text-at2)
-    → let a = c .before .before .before .before .before .before .before .before .args in
+    → let a = start (c .before .before .before .before) .args in
     fieldOf (now (a .bytes)) (c .text-at2 .result) ≡ textAt rootMark 0 (drop (a .at) (now (a .bytes)))
 root-mark c =
-    let a = c .before .before .before .before .before .before .before .before .args in
+    let a = start (c .before .before .before .before) .args in
     text-field (now (a .bytes)) (a .at) rootMark 0 (c .text-at2 .ensures)
 
 returns : tie.Need-returns

@@ -28,6 +28,12 @@ kind c = c .kind .given .0 .0
 abbrev after-kind : tie.After-kind → ℕ
 after-kind c = c .kind .given .0 .1 .0
 
+abbrev start : tie.After-kind → tie.Start
+start c = c .before .before .before .before
+
+abbrev kind-at : tie.After-x → tie.After-kind
+kind-at c = c .before .before .before .before
+
 abbrev x : tie.After-x → ℕ
 x c = c .x .given .0 .0
 
@@ -37,33 +43,32 @@ after-x c = c .x .given .0 .1 .0
 -- What the fields are by their definitions.
 kind-found :
     (c : tie.After-kind)
-    → let start = c .before .before .before .before in
-    holds (kind c) (drop (after-kind c) (bytes start)) ≡ keywordAt (drop (start .args .at) (bytes start))
+    → holds (kind c) (drop (after-kind c) (bytes (start c))) ≡ keywordAt (drop (start c .args .at) (bytes (start c)))
 kind-found c = told _ (c .kind .given .1) (c .before .before .keyword-at .ensures)
 
 x-read :
     (c : tie.After-number-at)
     → let k = c .before .before in
-    let b = bytes (k .before .before .before .before) in
+    let b = bytes (start k) in
     fieldOf b (c .number-at .result) ≡ numberAt tab (drop (after-kind k) b)
 x-read c =
-    let k = c .before .before in number-field (bytes (k .before .before .before .before)) (after-kind k) tab (c .number-at .ensures)
+    let k = c .before .before in number-field (bytes (start k)) (after-kind k) tab (c .number-at .ensures)
 
 x-found :
     (c : tie.After-x)
-    → let k = c .before .before .before .before in
-    let b = bytes (k .before .before .before .before) in
+    → let k = kind-at c in
+    let b = bytes (start k) in
     holds (x c) (drop (after-x c) b) ≡ numberAt tab (drop (after-kind k) b)
 x-found c = told _ (c .x .given .1) (x-read (c .before .before))
 
 y-read :
     (c : tie.After-number-at2)
     → let v = c .before .before in
-    let b = bytes (v .before .before .before .before .before .before .before .before) in
+    let b = bytes (start (kind-at v)) in
     fieldOf b (c .number-at2 .result) ≡ numberAt newline (drop (after-x v) b)
 y-read c =
     let v = c .before .before in
-    number-field (bytes (v .before .before .before .before .before .before .before .before)) (after-x v) newline (c .number-at2 .ensures)
+    number-field (bytes (start (kind-at v))) (after-x v) newline (c .number-at2 .ensures)
 
 keyword-at-requires : tie.Need-keyword-at-requires
 keyword-at-requires c κs = search needs
@@ -104,16 +109,16 @@ returns-3 : tie.Need-returns-3
 returns-3 c =
     let read = c .before .before in
     let v = read .before .before in
-    no-y _ _ _ (kind-found (v .before .before .before .before)) _ _ (x-found v) (told _ (c .enum-told3 .given .1) (y-read read))
+    no-y _ _ _ (kind-found (kind-at v)) _ _ (x-found v) (told _ (c .enum-told3 .given .1) (y-read read))
 
 cast-t12 : tie.Need-cast-t12
-cast-t12 c = let v = c .before .before .before .before .before in omega (arith, kind-small _ (kind-found (v .before .before .before .before)))
+cast-t12 c = let v = c .before .before .before .before .before in omega (arith, kind-small _ (kind-found (kind-at v)))
 
 returns-4 : tie.Need-returns-4
 returns-4 c =
     let read = c .before .before .before in
     let v = read .before .before in
-    row-read _ _ _ (kind-found (v .before .before .before .before)) _ _ (x-found v) _ _ (told _ (c .before .y .given .1) (y-read read))
+    row-read _ _ _ (kind-found (kind-at v)) _ _ (x-found v) _ _ (told _ (c .before .y .given .1) (y-read read))
 
 pub row-at-spec : {M : Type 1} → statement M
 row-at-spec =
