@@ -12,7 +12,8 @@ use Rattle.numbers.specs.Sizes.{labelCeiling, matrixWords}
 use Rattle.labels.specs.Sets.{member, none, joined}
 use Rattle.labels.proofs.SetLaws.{length-joined}
 use Rattle.labels.proofs.ChangedLaws.{changed-below, changed-beyond}
-use Rattle.matrix.specs.Matrix.{marked, merged, crossed, cleared}
+use Rattle.matrix.specs.Matrix.{marked, merged, crossed}
+use Rattle.matrix.specs.Inner.{cleared}
 use Rattle.matrix.proofs.MatrixLaws.{marks-make-the-matrix, marked-none, marked-cleared, marked-beyond-label, marked-beyond-partner}
 use Rattle.matrix.proofs.MatrixLaws.{length-cleared, words-cleared}
 use Rattle.analysis.proofs.Shape.{Sized, sized-none, sized-joined, sized-crossed}

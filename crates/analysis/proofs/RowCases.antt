@@ -9,7 +9,8 @@ use lib.ListN.{length, getD}
 use Rattle.numbers.specs.Sizes.{Size, matrixWords}
 use Rattle.labels.specs.Words.{Words}
 use Rattle.labels.specs.Sets.{none, single, union}
-use Rattle.matrix.specs.Matrix.{merged, crossed, cleared}
+use Rattle.matrix.specs.Matrix.{merged, crossed}
+use Rattle.matrix.specs.Inner.{cleared}
 use Rattle.calculus.specs.Syntax.{Stmt, skip, step, seq, loop, async, finish, call}
 use Rattle.recipe.specs.Inner.{rowsAlone, OfAdmitted}
 use Rattle.recipe.specs.Statements.{statementAt}

@@ -7,7 +7,7 @@ use native.Mathlib.Omega.{arith}
 use lib.ListN.{length}
 use Rattle.text.specs.Bytes.{ascii, tab, newline}
 use Rattle.text.specs.Numbers.{spelled}
-use Rattle.text.specs.Putting.{Put}
+use Rattle.text.specs.Inner.{Put}
 use Rattle.text.proofs.LineLaws.{ended, length-ended, length-first, put-first}
 use Rattle.answer.specs.Answer.{refusedLine}
 

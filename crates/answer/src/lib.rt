@@ -5,7 +5,7 @@ ghost use Rattle.numbers.specs.Sizes.{ours};
 ghost use Rattle.recipe.specs.Rules.{admitted};
 ghost use Rattle.recipe.specs.Statements.{programOf};
 ghost use Rattle.recipe.specs.Tables.{tableOf};
-ghost use Rattle.text.specs.Putting.{Put};
+ghost use Rattle.text.specs.Inner.{Put};
 ghost use Rattle.listing.specs.Replies.{listingOf};
 ghost use Rattle.answer.specs.Answer.{refusedLine, refusalLine, answerToTable, answerTo, Answered};
 use listing::Listed;

@@ -18,7 +18,7 @@ use Rattle.matrix.specs.Matrix.{Pair, partners}
 use Rattle.numbers.proofs.InTurnLaws.{none-in-turn}
 use Rattle.listing.specs.Pairs.{pairAt, pairsOf}
 use Rattle.listing.specs.Listing.{pairLine, lines}
-use Rattle.text.specs.Putting.{Put}
+use Rattle.text.specs.Inner.{Put}
 use Rattle.text.proofs.PutLaws.{put-nothing, put-behind, put-keeps}
 use Rattle.listing.proofs.LineLaws.{lines-append, lines-one}
 

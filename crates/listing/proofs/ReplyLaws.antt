@@ -18,7 +18,7 @@ use Rattle.recipe.specs.Statements.{programOf}
 use Rattle.recipe.specs.Tables.{Table}
 use Rattle.recipe.specs.declared.Judged.the-variants.{Admitted, Refused}
 use Rattle.recipe.proofs.Judging.{sizes-test}
-use Rattle.recipe.proofs.Admitted.{admitted-kept}
+use Rattle.recipe.proofs.Admitted.{sizes-right}
 use Rattle.recipe.proofs.WithMatrix.{whole-matrix}
 use Rattle.calls.specs.Reached.{wide}
 use Rattle.calls.specs.Verdicts.{verdictOn}
@@ -59,7 +59,7 @@ module _ (z : Size) (t : Table) (ok : admitted z t) where
   w = z .words
 
   admitted-still : (m : List ℕ) → matrixWords w ≤ length m → judgedWith z t (length m) ≡ Admitted
-  admitted-still m h = sym (whole-matrix z t (length m) (sizes-test (admitted-kept z t ok .sizes)) h) ∙ ok
+  admitted-still m h = sym (whole-matrix z t (length m) (sizes-test (sizes-right z t ok)) h) ∙ ok
 
   pub rounds-given : (m : List ℕ) → matrixWords w ≤ length m → {k : ℕ} → analysis.Rounds k ≡ analysed z t (length m) → k ≡ rounds w p
   rounds-given m h e = let given = admitted-reply z t m (admitted-still m h) refl refl in cc (given .0)

@@ -6,7 +6,7 @@ ghost use Prim.Native.Nat.{_*_, _≤_, _<_};
 ghost use lib.ListN.{length};
 ghost use Rattle.numbers.specs.Sizes.{ours, labelCeiling, matrixWords};
 ghost use Rattle.text.specs.Bytes.{newline};
-ghost use Rattle.text.specs.Putting.{Put};
+ghost use Rattle.text.specs.Inner.{Put};
 ghost use Rattle.listing.specs.Pairs.{pairAt, pairsOf, pairs};
 ghost use Rattle.listing.specs.Listing.{verdictText, opening, pairLine, lines};
 use labels::Label;

@@ -18,7 +18,8 @@ use Rattle.numbers.specs.General.{laid}
 use Rattle.numbers.specs.Sizes.{wordBits, labelCeiling, matrixWords}
 use Rattle.labels.specs.Words.{bit, Words, changed}
 use Rattle.labels.specs.Sets.{member, none, joined}
-use Rattle.matrix.specs.Matrix.{partners, marked, cleared, merged, copied, crossed}
+use Rattle.matrix.specs.Matrix.{partners, marked, merged, crossed}
+use Rattle.matrix.specs.Inner.{cleared, copied}
 use Rattle.labels.proofs.BitLaws.{bit-or, bit-times, bit-of-zero, bits-make-the-word}
 use Rattle.labels.proofs.ChangedLaws.{length-changed, changed-below, words-changed}
 use Rattle.labels.proofs.SetLaws.{member-lt, member-beyond, getD-none}

@@ -21,17 +21,9 @@ partners w m i = take w (drop (i * w) m)
 unfoldable pub marked : ℕ → List ℕ → ℕ → ℕ → ℕ
 marked w m i j = member (partners w m i) j
 
--- No pair is marked any more; words beyond the matrix stay.
-unfoldable pub cleared : ℕ → List ℕ → List ℕ
-cleared w m = changed (matrixWords w) (λ k x. 0) m
-
 -- The pairs of both matrices; words beyond the matrix stay.
 abbrev pub merged : ℕ → List ℕ → List ℕ → List ℕ
 merged w m n = joined (matrixWords w) m n
-
--- The pairs of the other matrix in the place of those marked before; words beyond the matrix stay.
-unfoldable pub copied : ℕ → List ℕ → List ℕ → List ℕ
-copied w m n = changed (matrixWords w) (λ k x. getD n k 0) m
 
 -- Every (a,b) and every (b,a) marked besides: word k belongs to label k / w, and takes b's word if that label is in a, a's if it is in b.
 unfoldable pub crossed : ℕ → List ℕ → List ℕ → List ℕ → List ℕ

@@ -8,7 +8,8 @@ ghost use lib.Count.{ones};
 ghost use lib.ListN.{getD};
 ghost use Rattle.numbers.specs.Sizes.{ours, wordBits, labelCeiling, matrixWords};
 ghost use Rattle.labels.specs.Sets.{member};
-ghost use Rattle.matrix.specs.Matrix.{cleared, merged, copied, crossed, pairsAtOrAbove};
+ghost use Rattle.matrix.specs.Matrix.{merged, crossed, pairsAtOrAbove};
+ghost use Rattle.matrix.specs.Inner.{cleared, copied};
 use labels::Label;
 use numbers::MATRIX_WORDS;
 

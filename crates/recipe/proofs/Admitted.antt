@@ -16,8 +16,7 @@ use Rattle.recipe.specs.Statements.{Child}
 use Rattle.recipe.specs.declared.Judged.the-variants.{Admitted}
 use Rattle.numbers.proofs.LowestLaws.{none-at-all, lowest-none}
 use Rattle.recipe.proofs.Operands.{and-first, and-second, child-before}
-use Rattle.recipe.specs.Offences.{RightSizes, KeepsRules}
-use Rattle.recipe.proofs.Judging.{sized, sizes-test, passed-if-admitted, passed-on, all-passed, fromOperands, fromRoots, fromUsedAgain, fromUnused}
+use Rattle.recipe.proofs.Judging.{RightSizes, sized, sizes-test, passed-if-admitted, passed-on, all-passed, fromOperands, fromRoots, fromUsedAgain, fromUnused}
 use Rattle.recipe.proofs.Judging.{sizes-passed, sizes-refused}
 
 module _ (z : Size) (t : Table) (ok : admitted z t) where
@@ -117,20 +116,3 @@ module _ (z : Size) (t : Table) (ok : admitted z t) where
         let most : uses t i ≤ 1 = ltb-false 1 (uses t i) (none-at-all (rows t) (usedAgain t) (past-used-again .0) i l) in
         let some : uses t i ≡ 0 → ⊥ = eqb-false (uses t i) 0 (none-at-all (rows t) (unused t) (past-unused .0) i l) in
         omega arith
-
--- An admitted table keeps every rule.
-pub admitted-kept : (z : Size) (t : Table) → admitted z t → KeepsRules z t
-admitted-kept z t ok =
-    record { sizes = sizes-right z t ok; kinds = kind-known z t ok; operands = operands-right z t ok; roots = root-row z t ok; once = used-once z t ok }
-
--- A table that keeps every rule is admitted: the judge refuses nothing else.
-pub kept-admitted : (z : Size) (t : Table) → KeepsRules z t → admitted z t
-kept-admitted z t k =
-    let n = rows t in
-    sizes-passed z t (sizes-test (k .sizes))
-    ∙ passed-on _ _ n (lowest-none n _ (λ i l. le-ltb 6 (kindAt t i) (k .kinds i l))) (omega arith)
-    ∙ passed-on _ _ n (lowest-none n _ (λ i l. ap not (k .operands i l))) (omega arith)
-    ∙ passed-on _ _ (procs t) (lowest-none (procs t) _ (λ f l. lt-leb n (rootAt t f) (k .roots f l))) (omega arith)
-    ∙ passed-on _ _ n (lowest-none n _ (λ i l. le-ltb 1 (uses t i) (omega (arith, k .once i l)))) (omega arith)
-    ∙ passed-on _ _ n (lowest-none n _ (λ i l. ne-eqb (uses t i) 0 (λ (e : uses t i ≡ 0). omega (arith, k .once i l)))) (omega arith)
-    ∙ all-passed

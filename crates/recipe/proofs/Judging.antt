@@ -12,11 +12,19 @@ use Rattle.numbers.specs.Sizes.{Size, rowCeiling}
 use Rattle.numbers.specs.declared.Refusal.{Refusal}
 use Rattle.numbers.specs.declared.Refusal.the-variants.{Sizes}
 use Rattle.recipe.specs.Tables.{Table}
-use Rattle.recipe.specs.Offences.{RightSizes}
 use Rattle.recipe.specs.Rules.{fromOneTo, sizesRight, sizesFit, Rule, operandRule, rootRule, onceRule, usedRule, furtherRules, judgedBy, judged}
 use Rattle.recipe.specs.declared.Judged.{Judged}
 use Rattle.recipe.specs.declared.Judged.the-variants.{Admitted, Refused}
 use Rattle.recipe.proofs.Operands.{and-first, and-second}
+
+-- Right sizes: from one to the ceiling of rows and of procedures, and both operands to each row.
+pub record RightSizes (z : Size) (rows xs ys procs : ℕ) : Type 0 where
+  pub some-rows : 1 ≤ rows
+  pub few-rows : rows ≤ rowCeiling
+  pub some-procs : 1 ≤ procs
+  pub few-procs : procs ≤ z .procs
+  pub xs-match : xs ≡ rows
+  pub ys-match : ys ≡ rows
 
 pub sized : (z : Size) (rows xs ys procs : ℕ) → sizesRight z rows xs ys procs ≡ true → RightSizes z rows xs ys procs
 unfolding sizesRight

@@ -11,11 +11,11 @@ use Rattle.numbers.specs.General.{lowest}
 use Rattle.numbers.specs.Sizes.{Size}
 use Rattle.numbers.specs.declared.Refusal.{Refusal}
 use Rattle.numbers.proofs.LowestLaws.{lowest-is, lowest-passes, lowest-none, none-below, none-at-all}
-use Rattle.recipe.specs.Offences.{Refuses}
-use Rattle.recipe.specs.Rules.{Rule, rulesOf, rulesWith, judgedBy, judged, judgedWith}
+use Rattle.recipe.specs.Offences.{KeepsRules, Refuses}
+use Rattle.recipe.specs.Rules.{Rule, rulesOf, rulesWith, judgedBy, judged, judgedWith, admitted}
 use Rattle.recipe.specs.Tables.{Table}
-use Rattle.recipe.specs.declared.Judged.the-variants.{Refused}
-use Rattle.recipe.proofs.Judging.{refused-at, passed-on, all-passed}
+use Rattle.recipe.specs.declared.Judged.the-variants.{Admitted, Refused}
+use Rattle.recipe.proofs.Judging.{refused-at, passed-on, passed-if-admitted, all-passed}
 
 -- ---- of any rules
 
@@ -43,7 +43,27 @@ of-refuses (Refuses.here {r = r} {more = more} {i = i} f) =
 of-refuses (Refuses.later {r = r} {more = more} none rest) =
     passed-on r more (r .places) (lowest-none (r .places) (r .breaks) none) (omega arith) ∙ of-refuses rest
 
+keeps-of : (rules : List Rule) → judgedBy rules ≡ Admitted → KeepsRules rules
+keeps-of [] h = tt
+keeps-of (r ∷ more) h =
+    let passed = passed-if-admitted r more h in
+    (none-at-all (r .places) (r .breaks) (passed .0), keeps-of more (passed .1))
+
+of-keeps : (rules : List Rule) → KeepsRules rules → judgedBy rules ≡ Admitted
+of-keeps [] k = all-passed
+of-keeps (r ∷ more) k =
+    passed-on r more (r .places) (lowest-none (r .places) (r .breaks) (k .0)) (omega arith) ∙ of-keeps more (k .1)
+
 -- ---- of a table
+
+-- A table is admitted exactly if it keeps every rule.
+pub admitted-kept : (z : Size) (t : Table) → admitted z t → KeepsRules (rulesOf z t)
+unfolding judged
+admitted-kept z t = keeps-of (rulesOf z t)
+
+pub kept-admitted : (z : Size) (t : Table) → KeepsRules (rulesOf z t) → admitted z t
+unfolding judged
+kept-admitted z t = of-keeps (rulesOf z t)
 
 module _ (z : Size) (t : Table) (why : Refusal) where
   pub refused-means : judged z t ≡ Refused why → Refuses (rulesOf z t) why

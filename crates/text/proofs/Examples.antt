@@ -3,7 +3,8 @@
 use mathlib.Core.Path.{_≡_, refl}
 use Rattle.text.specs.Bytes.{ascii, tab, isDigit}
 use Rattle.text.specs.Numbers.{spelledIn, spelled}
-use Rattle.text.specs.Fields.{textAt, digitsAt, digitsAfter, numberAt, tokenAt}
+use Rattle.text.specs.Fields.{textAt, digitsAt, digitsAfter, numberAt}
+use Rattle.text.specs.Inner.{tokenAt}
 use Rattle.text.specs.declared.Token.the-variants.{Found, Missing}
 
 nothing : spelled 0 ≡ ascii "0"

@@ -8,7 +8,7 @@ use lib.ListN.{length, length-append}
 use lib.Seq.{append-snoc}
 use Rattle.text.specs.Bytes.{tab}
 use Rattle.text.specs.Lines.{line}
-use Rattle.text.specs.Putting.{Put}
+use Rattle.text.specs.Inner.{Put}
 use Rattle.text.proofs.PutLaws.{put-behind}
 
 -- A field with the byte that ends it.

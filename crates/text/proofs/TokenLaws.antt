@@ -7,8 +7,8 @@ use native.Mathlib.Omega.{arith}
 use lib.ListN.{length, drop, length-append, length-drop}
 use lib.Seq.{append-snoc, drop-drop, drop-append-seam}
 use Rattle.text.specs.Numbers.{spelled}
-use Rattle.text.specs.Fields.{Field, holds, broken, textAt, numberAt, placed, tokenAt}
-use Rattle.text.specs.Inner.{fieldOf, Ahead}
+use Rattle.text.specs.Fields.{Field, holds, broken, textAt, numberAt}
+use Rattle.text.specs.Inner.{placed, tokenAt, fieldOf, Ahead}
 use Rattle.text.specs.declared.Token.{Token}
 use Rattle.text.specs.declared.Token.the-variants.{Found, Missing}
 use Rattle.text.proofs.FieldForms.{text-read, number-read}

@@ -3,10 +3,7 @@ use mathlib.Core.Bool.{cond}
 use mathlib.Core.List.{List, [], _∷_}
 use Prim.Native.Nat.{ℕ, zero, suc, _+_, _-_, _*_}
 use lib.Dec.{eqb}
-use lib.ListN.{length, drop}
 use Rattle.text.specs.Bytes.{digit, isDigit}
-use Rattle.text.specs.declared.Token.{Token}
-use Rattle.text.specs.declared.Token.the-variants.{Found, Missing}
 
 -- A field: a number and the bytes after the field, or nothing of the right form.
 pub data Field : Type 0 where
@@ -34,12 +31,3 @@ digitsAfter b = cond (eqb b (digit 0)) 0 3
 unfoldable pub numberAt : ℕ → List ℕ → Field
 numberAt stop [] = broken
 numberAt stop (b ∷ s) = cond (isDigit b) (digitsAt stop (digitsAfter b) (b - digit 0) s) broken
-
--- A field at the front of these bytes, which stand at this place: its number and the place behind it.
-abbrev pub placed : ℕ → List ℕ → Field → Token
-placed at s (holds n rest) = Found n (at + (length s - length rest))
-placed at s broken = Missing
-
--- What is found by reading a field at this place of the bytes.
-unfoldable pub tokenAt : (List ℕ → Field) → List ℕ → ℕ → Token
-tokenAt read bytes at = placed at (drop at bytes) (read (drop at bytes))

@@ -2,5 +2,4 @@ pub mod Bytes
 pub mod Numbers
 pub mod Fields
 pub mod Lines
-pub mod Putting
 pub mod Inner

@@ -5,9 +5,8 @@ ghost use Prim.Native.Nat.{_+_, _*_, _^_, _≤_, _<_};
 ghost use lib.ListN.{length, drop};
 ghost use Rattle.text.specs.Bytes.{digit, isDigit};
 ghost use Rattle.text.specs.Numbers.{spelled};
-ghost use Rattle.text.specs.Fields.{textAt, digitsAt, digitsAfter, numberAt, tokenAt};
-ghost use Rattle.text.specs.Putting.{Put};
-ghost use Rattle.text.specs.Inner.{fieldOf, Ahead};
+ghost use Rattle.text.specs.Fields.{textAt, digitsAt, digitsAfter, numberAt};
+ghost use Rattle.text.specs.Inner.{tokenAt, Put, fieldOf, Ahead};
 
 // A field that was found, with its number and the place behind it, or none of the right form.
 pub enum Token {

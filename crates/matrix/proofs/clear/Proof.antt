@@ -3,7 +3,7 @@
 use mathlib.Core.Path.{refl}
 use Prim.Native.Nat.{_-_}
 use Rattle.numbers.specs.Sizes.{ours, matrixWords}
-use Rattle.matrix.specs.Matrix.{cleared}
+use Rattle.matrix.specs.Inner.{cleared}
 use Rattle.labels.proofs.InPlace.{Changing, begins, goes-on, ends}
 use borrow.Author.Needs.{needs}
 use native.Mathlib.Omega.{arith}

@@ -4,7 +4,7 @@ use Prim.Native.Nat.{_-_}
 use lib.ListN.{getD}
 use Rattle.numbers.specs.Sizes.{ours, matrixWords}
 use Rattle.labels.proofs.InPlace.{Changing, begins, goes-on, ends}
-use Rattle.matrix.specs.Matrix.{copied}
+use Rattle.matrix.specs.Inner.{copied}
 use borrow.Author.Needs.{needs}
 use native.Mathlib.Omega.{arith}
 use Rattle.matrix.proofs.copy.Statement.{statement}

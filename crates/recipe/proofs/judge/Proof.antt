@@ -16,8 +16,7 @@ use Rattle.recipe.specs.Inner.{Counts}
 use Rattle.numbers.proofs.LowestLaws.{none-at-all}
 use Rattle.recipe.proofs.Operands.{child-before}
 use Rattle.recipe.proofs.Counters.{counts-none, lowest-at-two, lowest-at-zero}
-use Rattle.recipe.specs.Offences.{RightSizes}
-use Rattle.recipe.proofs.Judging.{sized, refused-at, passed-on, all-passed, fromKinds, fromOperands, fromRoots, fromUsedAgain, fromUnused, sizes-refused}
+use Rattle.recipe.proofs.Judging.{RightSizes, sized, refused-at, passed-on, all-passed, fromKinds, fromOperands, fromRoots, fromUsedAgain, fromUnused, sizes-refused}
 use Rattle.recipe.proofs.Judging.{sizes-passed}
 use Rattle.recipe.proofs.judge.Statement.{statement}
 use Rattle.recipe.proofs.judge.Tie as tie

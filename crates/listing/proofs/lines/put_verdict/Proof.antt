@@ -4,7 +4,7 @@ use mathlib.Core.Path.{sym, subst}
 use mathlib.Core.Bool.{Bool}
 use denote.Ref.{now}
 use Rattle.text.specs.Bytes.{newline}
-use Rattle.text.specs.Putting.{Put}
+use Rattle.text.specs.Inner.{Put}
 use Rattle.text.proofs.LineLaws.{ended}
 use Rattle.listing.specs.Listing.{verdictText}
 use borrow.Author.Needs.{needs}
