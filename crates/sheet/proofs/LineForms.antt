@@ -1,6 +1,6 @@
 -- A line is read exactly where it is spelled: field by field, each read exactly where it is spelled.
 -- Assumes nothing.
-use mathlib.Core.Path.{_≡_, refl, sym, ap, ap₂, _∙_, subst}
+use mathlib.Core.Path.{_≡_, refl, sym, ap, _∙_, subst}
 use mathlib.Core.List.{List, [], _∷_, _++_, append-assoc}
 use Prim.Native.Nat.{ℕ, _≤_, _<_}
 use native.Mathlib.Omega.{arith}
@@ -12,7 +12,7 @@ use Rattle.text.specs.Numbers.{spelled}
 use Rattle.text.specs.Fields.{Field, holds, broken, textAt, numberAt}
 use Rattle.text.proofs.FieldForms.{text-read, number-read, number-reads}
 use Rattle.sheet.specs.Form.{keyword, spelledRow, spelledRoot, Short, ShortRow}
-use Rattle.sheet.specs.Lines.{rowMark, rootMark, keywordAt, noLine, rowLine, rootLine, wrongLine, rowLineAt, rootLineAt, lineAt}
+use Rattle.sheet.specs.Lines.{Line, rowMark, rootMark, keywordAt, noLine, rowLine, rootLine, wrongLine, rowLineAt, rootLineAt, lineAt}
 use Rattle.sheet.proofs.KeywordLaws.{kind-small, keyword-read, keyword-reads}
 use Rattle.sheet.proofs.LineLaws.{no-keyword, no-x, no-y, row-read, no-root, root-read, row-marked, root-marked, unmarked}
 
@@ -92,70 +92,51 @@ root-field-of s = by-root (numberAt newline s) refl
     by-root (holds root t) h =
         let p = number-read newline s h in root-field root t (p .0) (omega (arith, p .1)) (sym (root-read s root t (sym h)))
 
--- What stands at the front: nothing, a row or a root as it is spelled, or a wrong line.
-data Front (s : List ℕ) : Type 0 where
-  nothing : s ≡ [] → lineAt s ≡ noLine → Front s
-  a-row : (row : Row) (t : List ℕ) → s ≡ spelledRow row ++ t → ShortRow row → lineAt s ≡ rowLine row t → Front s
-  a-root : (root : ℕ) (t : List ℕ) → s ≡ spelledRoot root ++ t → Short root → lineAt s ≡ rootLine root t → Front s
-  wrong : lineAt s ≡ wrongLine → Front s
+-- What stands at the front where this line is read: nothing, a row or a root as it is spelled, or a wrong line.
+data Front (s : List ℕ) : Line → Type 0 where
+  nothing : s ≡ [] → Front s noLine
+  a-row : {row : Row} {t : List ℕ} → s ≡ spelledRow row ++ t → ShortRow row → Front s (rowLine row t)
+  a-root : {root : ℕ} {t : List ℕ} → s ≡ spelledRoot root ++ t → Short root → Front s (rootLine root t)
+  wrong : Front s wrongLine
 
-front : (s : List ℕ) → Front s
+front : (s : List ℕ) → Front s (lineAt s)
 unfolding lineAt
-front [] = nothing refl refl
+front [] = nothing refl
 front (b ∷ s) = by-mark (textAt rowMark 0 (b ∷ s)) refl (textAt rootMark 0 (b ∷ s)) refl
   where
-    by-row : (t : List ℕ) → b ∷ s ≡ rowMark ++ t → lineAt (b ∷ s) ≡ rowLineAt t → RowFields t → Front (b ∷ s)
-    by-row t e l (row-fields row u f h g) = a-row row u (e ∙ ap (_++_ rowMark) f ∙ sym (row-line row u)) h (l ∙ g)
-    by-row t e l (wrong-row g) = wrong (l ∙ g)
+    by-row : (t : List ℕ) → b ∷ s ≡ rowMark ++ t → RowFields t → Front (b ∷ s) (rowLineAt t)
+    by-row t e (row-fields row u f h g) = rw g (a-row (e ∙ ap (_++_ rowMark) f ∙ sym (row-line row u)) h)
+    by-row t e (wrong-row g) = rw g wrong
 
-    by-root : (t : List ℕ) → b ∷ s ≡ rootMark ++ t → lineAt (b ∷ s) ≡ rootLineAt t → RootField t → Front (b ∷ s)
-    by-root t e l (root-field root u f h g) = a-root root u (e ∙ ap (_++_ rootMark) f ∙ sym (root-line root u)) h (l ∙ g)
-    by-root t e l (wrong-root g) = wrong (l ∙ g)
+    by-root : (t : List ℕ) → b ∷ s ≡ rootMark ++ t → RootField t → Front (b ∷ s) (rootLineAt t)
+    by-root t e (root-field root u f h g) = rw g (a-root (e ∙ ap (_++_ rootMark) f ∙ sym (root-line root u)) h)
+    by-root t e (wrong-root g) = rw g wrong
 
-    by-mark : (f : Field) → textAt rowMark 0 (b ∷ s) ≡ f → (g : Field) → textAt rootMark 0 (b ∷ s) ≡ g → Front (b ∷ s)
+    by-mark : (f : Field) → textAt rowMark 0 (b ∷ s) ≡ f → (g : Field) → textAt rootMark 0 (b ∷ s) ≡ g → Front (b ∷ s) (lineAt (b ∷ s))
     by-mark (holds n t) h g k =
-        by-row t (text-read rowMark 0 (b ∷ s) h .1) (sym (row-marked b s (sym h))) (row-fields-of t)
+        subst (Front (b ∷ s)) (row-marked b s (sym h)) (by-row t (text-read rowMark 0 (b ∷ s) h .1) (row-fields-of t))
     by-mark broken h (holds n t) k =
-        by-root t (text-read rootMark 0 (b ∷ s) k .1) (sym (root-marked b s (sym h) (sym k))) (root-field-of t)
-    by-mark broken h broken k = wrong (sym (unmarked b s (sym h) (sym k)))
+        subst (Front (b ∷ s)) (root-marked b s (sym h) (sym k)) (by-root t (text-read rootMark 0 (b ∷ s) k .1) (root-field-of t))
+    by-mark broken h broken k = subst (Front (b ∷ s)) (unmarked b s (sym h) (sym k)) wrong
 
 -- So each line that is read stands there as it is spelled.
 pub row-spelled : (s : List ℕ) {row : Row} {t : List ℕ} → lineAt s ≡ rowLine row t → (s ≡ spelledRow row ++ t) × ShortRow row
-row-spelled s {row} {t} l = by-front (front s)
+row-spelled s {row} {t} l = of-row (subst (Front s) l (front s))
   where
-    by-front : Front s → (s ≡ spelledRow row ++ t) × ShortRow row
-    by-front (nothing e k) = let z : _≡_ {A = ℕ} 0 1 = cc in absurd (omega arith)
-    by-front (a-row other u e h k) =
-        let same : other ≡ row = cc in
-        let rest : u ≡ t = cc in (
-          e ∙ ap₂ (λ (r : Row) (v : List ℕ). spelledRow r ++ v) same rest,
-          subst ShortRow same h,
-        )
-    by-front (a-root root u e h k) = let z : _≡_ {A = ℕ} 0 1 = cc in absurd (omega arith)
-    by-front (wrong k) = let z : _≡_ {A = ℕ} 0 1 = cc in absurd (omega arith)
+    of-row : Front s (rowLine row t) → (s ≡ spelledRow row ++ t) × ShortRow row
+    of-row (a-row e h) = (e, h)
 
 pub root-spelled : (s : List ℕ) {root : ℕ} {t : List ℕ} → lineAt s ≡ rootLine root t → (s ≡ spelledRoot root ++ t) × Short root
-root-spelled s {root} {t} l = by-front (front s)
+root-spelled s {root} {t} l = of-root (subst (Front s) l (front s))
   where
-    by-front : Front s → (s ≡ spelledRoot root ++ t) × Short root
-    by-front (nothing e k) = let z : _≡_ {A = ℕ} 0 1 = cc in absurd (omega arith)
-    by-front (a-row row u e h k) = let z : _≡_ {A = ℕ} 0 1 = cc in absurd (omega arith)
-    by-front (a-root other u e h k) =
-        let same : other ≡ root = cc in
-        let rest : u ≡ t = cc in (
-          e ∙ ap₂ (λ (r : ℕ) (v : List ℕ). spelledRoot r ++ v) same rest,
-          subst Short same h,
-        )
-    by-front (wrong k) = let z : _≡_ {A = ℕ} 0 1 = cc in absurd (omega arith)
+    of-root : Front s (rootLine root t) → (s ≡ spelledRoot root ++ t) × Short root
+    of-root (a-root e h) = (e, h)
 
 pub end-spelled : (s : List ℕ) → lineAt s ≡ noLine → s ≡ []
-end-spelled s l = by-front (front s)
+end-spelled s l = of-end (subst (Front s) l (front s))
   where
-    by-front : Front s → s ≡ []
-    by-front (nothing e k) = e
-    by-front (a-row row u e h k) = let z : _≡_ {A = ℕ} 0 1 = cc in absurd (omega arith)
-    by-front (a-root root u e h k) = let z : _≡_ {A = ℕ} 0 1 = cc in absurd (omega arith)
-    by-front (wrong k) = let z : _≡_ {A = ℕ} 0 1 = cc in absurd (omega arith)
+    of-end : Front s noLine → s ≡ []
+    of-end (nothing e) = e
 
 -- And leaves fewer bytes.
 some-row : (row : Row) → 1 ≤ length (spelledRow row)
