@@ -22,7 +22,8 @@ use Rattle.table.specs.Reading.{Reading, rowsOf, rootsOf, replyOf}
 use Rattle.table.specs.declared.Read.{Read}
 use Rattle.sheet.specs.Reading.{readSheet}
 use Rattle.sheet.proofs.read_sheet.Reads.{Post as read-sheet-post}
-use Rattle.records.specs.Records.{Answers, Lists, readRecords, Reads}
+use Rattle.records.specs.Records.{readRecords}
+use Rattle.records.specs.Inner.{Answers, Lists, Reads}
 
 -- Three slices that hold the fields of the rows are the same table.
 pub same-table :

@@ -11,7 +11,7 @@ use Rattle.numbers.specs.Sizes.{rowCeiling}
 use Rattle.recipe.specs.Records.{tableOfRows}
 use Rattle.recipe.specs.Tables.{tableOf}
 use Rattle.recipe.specs.declared.Row.{Row}
-use Rattle.table.specs.Storing.{column, columnsOf}
+use Rattle.table.specs.Inner.{column, columnsOf}
 use Rattle.table.specs.declared.Columns.{Columns}
 use Rattle.table.proofs.Laying.{column-begins}
 use Rattle.records.proofs.Agreement.{same-table}

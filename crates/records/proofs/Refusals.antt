@@ -9,7 +9,8 @@ use Rattle.numbers.specs.declared.Refusal.{Refusal}
 use Rattle.recipe.specs.declared.Row.{Row}
 use Rattle.table.specs.declared.Read.the-variants.{Refused}
 use Rattle.table.proofs.Replies.{nothing-of}
-use Rattle.records.specs.Records.{readRecords, Reads}
+use Rattle.records.specs.Records.{readRecords}
+use Rattle.records.specs.Inner.{Reads}
 
 pub refusal-stores-nothing :
     (z : Size) (bytes roots roots' : List ℕ) (rows rows' : List Row) (why : Refusal) → Reads z bytes rows roots (Refused why) rows' roots'

@@ -8,13 +8,14 @@ use lib.ListN.{length}
 use Rattle.numbers.specs.General.{laid}
 use Rattle.numbers.specs.Sizes.{ours}
 use Rattle.recipe.specs.declared.Row.{Row}
-use Rattle.table.specs.Reading.{rootsOf, rowCount}
-use Rattle.table.specs.Storing.{overlaid, heldOf}
+use Rattle.table.specs.Reading.{rootsOf}
+use Rattle.table.specs.Inner.{rowCount, overlaid, heldOf}
 use Rattle.table.specs.declared.Held.{Held}
 use Rattle.table.specs.declared.Read.{Read}
 use Rattle.table.proofs.Laying.{held-rows}
 use Rattle.sheet.proofs.SheetForms.{sheet-within}
-use Rattle.records.specs.Records.{readRecords, Reads}
+use Rattle.records.specs.Records.{readRecords}
+use Rattle.records.specs.Inner.{Reads}
 
 pub stored-is-read :
     (bytes roots : List ℕ) (rows : List Row) {roots' : List ℕ} {rows' : List Row} {h : Held} {r : Read} {n : ℕ}

@@ -19,7 +19,7 @@ use Rattle.recipe.proofs.WithMatrix.{wrong-sizes}
 use Rattle.analysis.proofs.ReplyLaws.{refused-reply}
 use Rattle.listing.specs.declared.Listed.the-variants as listing
 use Rattle.listing.proofs.ReplyLaws.{refused-listing}
-use Rattle.records.specs.Records.{Answers, Lists}
+use Rattle.records.specs.Inner.{Answers, Lists}
 
 module _ (z : Size) where
   wrong : (t : Table) → rowCeiling < rows t → sizesFit z t ≡ false

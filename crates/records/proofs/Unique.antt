@@ -17,7 +17,7 @@ use Rattle.recipe.specs.declared.Row.{Row}
 use Rattle.analysis.specs.declared.Analysed.{Analysed}
 use Rattle.listing.specs.declared.Listed.{Listed}
 use Rattle.table.specs.declared.Read.{Read}
-use Rattle.records.specs.Records.{Answers, Lists, Reads}
+use Rattle.records.specs.Inner.{Answers, Lists, Reads}
 use Rattle.records.proofs.analyse_rows as analysis
 use Rattle.records.proofs.list_rows as listing
 use Rattle.records.proofs.read_rows as reader

@@ -6,7 +6,7 @@ ghost use Rattle.numbers.specs.Sizes.{ours};
 ghost use Rattle.listing.specs.Listing.{longestListing};
 ghost use Rattle.answer.specs.Answer.{answerTo};
 ghost use Rattle.io.specs.Counts.{Counts};
-ghost use Rattle.report.specs.Taking.{AtMost};
+ghost use Rattle.report.specs.Inner.{AtMost};
 use libc::STDERR_FILENO;
 use libc::STDIN_FILENO;
 use libc::STDOUT_FILENO;

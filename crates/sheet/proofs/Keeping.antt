@@ -9,7 +9,7 @@ use Rattle.numbers.specs.General.{laid}
 use Rattle.numbers.specs.Sizes.{ours, rowCeiling}
 use Rattle.recipe.specs.declared.Row.{Row}
 use Rattle.table.specs.Reading.{Reading, refused}
-use Rattle.table.specs.Storing.{noRows, noRoots, heldOf}
+use Rattle.table.specs.Inner.{noRows, noRoots, heldOf}
 use Rattle.table.specs.declared.Read.the-variants.{Stored}
 use Rattle.table.proofs.Laying.{laid-next, length-no-rows, length-no-roots, held-is}
 use Rattle.sheet.specs.Lines.{lineAt}

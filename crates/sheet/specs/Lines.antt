@@ -53,12 +53,12 @@ unfoldable pub rootLineAt : List ℕ → Line
 rootLineAt s = andThen (numberAt newline s) (λ root s1. rootLine root s1)
 
 -- The line by the mark that it begins with: that of a row, that of a procedure, or none.
-abbrev pub marked : Field → Field → Line
-marked (holds n s) rootMarked = rowLineAt s
-marked broken (holds n s) = rootLineAt s
-marked broken broken = wrongLine
+abbrev pub byMark : Field → Field → Line
+byMark (holds n s) rootMarked = rowLineAt s
+byMark broken (holds n s) = rootLineAt s
+byMark broken broken = wrongLine
 
 -- The line that the bytes begin with.
 unfoldable pub lineAt : List ℕ → Line
 lineAt [] = noLine
-lineAt (b ∷ s) = marked (textAt rowMark 0 (b ∷ s)) (textAt rootMark 0 (b ∷ s))
+lineAt (b ∷ s) = byMark (textAt rowMark 0 (b ∷ s)) (textAt rootMark 0 (b ∷ s))

@@ -8,8 +8,7 @@ use Rattle.numbers.specs.Sizes.{Size, rowCeiling, sheetCeiling}
 use Rattle.numbers.specs.declared.Refusal.{Refusal}
 use Rattle.numbers.specs.declared.Refusal.the-variants.{LongSheet, WrongForm, NoRoom}
 use Rattle.recipe.specs.declared.Row.{Row}
-use Rattle.table.specs.Reading.{Reading, table, refused}
-use Rattle.table.specs.Storing.{rowPlaces}
+use Rattle.table.specs.Reading.{Reading, table, refused, rowPlaces}
 use Rattle.sheet.specs.Lines.{Line, lineAt, noLine, rowLine, rootLine, wrongLine}
 
 -- What is done with a line: the sheet ends, the line is refused, or its row or root is kept and the bytes after it are next.

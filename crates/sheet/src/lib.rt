@@ -4,7 +4,7 @@ ghost use Rattle.numbers.specs.General.{laid};
 ghost use Rattle.numbers.specs.Sizes.{ours};
 ghost use Rattle.recipe.specs.Records.{kindsOf, xsOf, ysOf};
 ghost use Rattle.table.specs.Reading.{rowsOf, rootsOf, replyOf};
-ghost use Rattle.table.specs.Storing.{heldOf};
+ghost use Rattle.table.specs.Inner.{heldOf};
 ghost use Rattle.sheet.specs.Reading.{readSheet, readInto};
 use lines::Step;
 use numbers::Refusal;

@@ -27,7 +27,7 @@ use denote.Triple.Spec.{tripleOf}
 use denote.Triple.Statement.{Contract, Triple}
 use Rattle.recipe.specs.declared.Row.{Row}
 use Rattle.table.proofs.RowMemory.{R}
-use Rattle.table.specs.Storing.{columnsOf}
+use Rattle.table.specs.Inner.{columnsOf}
 use Rattle.table.specs.declared.Columns.{Columns}
 use Rattle.table.proofs.Columns as Cl
 use Rattle.table.proofs.copy_in as copy-in

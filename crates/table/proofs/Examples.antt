@@ -3,7 +3,8 @@
 use mathlib.Core.Path.{_≡_, refl}
 use mathlib.Core.List.{[], _∷_}
 use Rattle.recipe.specs.declared.Row.{Row}
-use Rattle.table.specs.Storing.{overlaid, rowPlaces}
+use Rattle.table.specs.Inner.{overlaid}
+use Rattle.table.specs.Reading.{rowPlaces}
 
 abbrev step : Row
 step = record { kind = 1; x = 7; y = 0 }

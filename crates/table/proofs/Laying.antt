@@ -10,8 +10,8 @@ use lib.Seq.{drop-cons, set-at, append-snoc, take-append-seam}
 use Rattle.numbers.specs.General.{laid}
 use Rattle.numbers.specs.Sizes.{ours, rowCeiling}
 use Rattle.recipe.specs.declared.Row.{Row}
-use Rattle.table.specs.Reading.{Reading, table, refused, rowsOf, rootsOf, replyOf, rowCount, rootCount}
-use Rattle.table.specs.Storing.{overlaid, zeros, blank, noRows, noRoots, heldOf, column}
+use Rattle.table.specs.Reading.{Reading, table, refused, rowsOf, rootsOf, replyOf}
+use Rattle.table.specs.Inner.{rowCount, rootCount, overlaid, zeros, blank, noRows, noRoots, heldOf, column}
 use Rattle.table.specs.declared.Held.{Held}
 use Rattle.table.specs.declared.Read.the-variants.{Stored}
 use Rattle.table.proofs.Overlaid.{overlaid-all, overlaid-front}

@@ -28,7 +28,7 @@ use denote.ArrayMemory.{Single, array-apart, array-whole}
 use denote.Index.{row}
 use denote.Steps.{only}
 use denote.Struct.Steps.{spelt}
-use Rattle.table.specs.Storing.{zeros}
+use Rattle.table.specs.Inner.{zeros}
 
 -- The type of an array of n elements in the code.
 abbrev pub arrayTy : RattleType → ℕ → Ty

@@ -10,7 +10,7 @@ use native.Mathlib.Omega.{arith}
 use lib.ListN.{length, getD, set, take, drop, length-set, length-append, length-map, List·getD-map}
 use lib.Seq.{drop-cons, take-suc, set-at, length-take-le, take-length, take-append-seam}
 use Rattle.numbers.specs.General.{laid}
-use Rattle.table.specs.Storing.{overlaid}
+use Rattle.table.specs.Inner.{overlaid}
 
 module _ {A : Type 0} where
   -- The elements that `overlaid` stores are as many as both lists have.

@@ -13,7 +13,7 @@ use ghost.Atoms.{Atoms}
 use contract.Monad.{Fun, fact}
 use denote.Ref.{now}
 use Rattle.recipe.specs.declared.Row.{Row}
-use Rattle.table.specs.Storing.{overlaid, columnsOf}
+use Rattle.table.specs.Inner.{overlaid, columnsOf}
 use Rattle.table.specs.declared.Columns.{Columns}
 use Rattle.table.proofs.least.Reads.{Post as least-post}
 use Rattle.table.proofs.Room.within_ceilings.Reads.{Post as within-ceilings-post}

@@ -1,2 +1,2 @@
 pub mod Reading
-pub mod Storing
+pub mod Inner

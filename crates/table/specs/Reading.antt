@@ -1,6 +1,6 @@
--- What a reader comes to, and what is replied.
+-- What a reader comes to, what is replied, and how many places three slices have.
 use mathlib.Core.List.{List, []}
-use Prim.Native.Nat.{ℕ}
+use Prim.Native.Nat.{ℕ, min}
 use lib.ListN.{length}
 use Rattle.numbers.specs.declared.Refusal.{Refusal}
 use Rattle.recipe.specs.declared.Row.{Row}
@@ -27,12 +27,6 @@ abbrev pub replyOf : Reading → Read
 replyOf (table rows roots) = Stored (length rows) (length roots)
 replyOf (refused why) = Refused why
 
--- The number of rows that a reply reports, 0 where it refuses.
-abbrev pub rowCount : Read → ℕ
-rowCount (Stored n m) = n
-rowCount (Refused why) = 0
-
--- The number of roots that a reply reports, 0 where it refuses.
-abbrev pub rootCount : Read → ℕ
-rootCount (Stored n m) = m
-rootCount (Refused why) = 0
+-- How many rows three slices have places for: as many as the shortest.
+abbrev pub rowPlaces : List ℕ → List ℕ → List ℕ → ℕ
+rowPlaces kinds xs ys = min (length kinds) (min (length xs) (length ys))

@@ -6,19 +6,12 @@ use borrow.Author.Needs.{needs}
 use Rattle.panel.proofs.bushkalote_analyse.Statement.{statement}
 use Rattle.panel.proofs.bushkalote_analyse.Tie as tie
 
-analyse-requires : tie.Need-analyse-requires
-analyse-requires c κs = search needs
-
-analysed-code-requires : tie.Need-analysed-code-requires
-analysed-code-requires c κs = search needs
-
-same-length : tie.Need-same-length
-same-length c = search needs
-
 returns : tie.Need-returns
 returns c =
     let given = c .before .before .before .analyse .ensures in (c .analysed-code .ensures ∙ ap analysedCode (given .0), given .1)
 
 pub bushkalote-analyse-spec : {M : Type 1} → statement M
 bushkalote-analyse-spec =
-    tie.close (tie.spec analyse-requires analysed-code-requires same-length returns)
+    tie.close
+    (tie.spec
+    (λ c κs. search needs) (λ c κs. search needs) (λ c. search needs) returns)

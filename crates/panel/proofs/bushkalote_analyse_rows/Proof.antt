@@ -37,7 +37,7 @@ use Rattle.analysis.specs.declared.Analysed.{Analysed}
 use Rattle.analysis.proofs.Analysed as S
 use Rattle.analysis.proofs.Analysed.Laws as S′
 use Rattle.table.proofs.RowMemory.{R}
-use Rattle.records.specs.Records.{Answers}
+use Rattle.records.specs.Inner.{Answers}
 use Rattle.records.proofs.analyse_rows as worked
 use Rattle.records.proofs.analyse_rows.Symbol as worked-def
 use Rattle.records.proofs.analyse_rows.Symbol.{name as #records·analyse-rows}

@@ -6,18 +6,6 @@ use borrow.Author.Needs.{needs}
 use Rattle.panel.proofs.bushkalote_list_pairs.Statement.{statement}
 use Rattle.panel.proofs.bushkalote_list_pairs.Tie as tie
 
-list-pairs-requires : tie.Need-list-pairs-requires
-list-pairs-requires c κs = search needs
-
-listed-code-requires : tie.Need-listed-code-requires
-listed-code-requires c κs = search needs
-
-same-length : tie.Need-same-length
-same-length c = search needs
-
-same-length-2 : tie.Need-same-length-2
-same-length-2 c = search needs
-
 returns : tie.Need-returns
 returns c =
     let given = c .before .before .before .before .before .list-pairs .ensures in
@@ -25,4 +13,6 @@ returns c =
 
 pub bushkalote-list-pairs-spec : {M : Type 1} → statement M
 bushkalote-list-pairs-spec =
-    tie.close (tie.spec list-pairs-requires listed-code-requires same-length same-length-2 returns)
+    tie.close
+    (tie.spec
+    (λ c κs. search needs) (λ c κs. search needs) (λ c. search needs) (λ c. search needs) returns)

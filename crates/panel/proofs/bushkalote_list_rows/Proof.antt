@@ -37,7 +37,7 @@ use Rattle.listing.specs.declared.Listed.{Listed}
 use Rattle.listing.proofs.Listed as S
 use Rattle.listing.proofs.Listed.Laws as S′
 use Rattle.table.proofs.RowMemory.{R}
-use Rattle.records.specs.Records.{Lists}
+use Rattle.records.specs.Inner.{Lists}
 use Rattle.records.proofs.list_rows as worked
 use Rattle.records.proofs.list_rows.Symbol as worked-def
 use Rattle.records.proofs.list_rows.Symbol.{name as #records·list-rows}

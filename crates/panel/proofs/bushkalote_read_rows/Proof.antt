@@ -39,7 +39,7 @@ use Rattle.table.specs.declared.Read.{Read}
 use Rattle.table.proofs.Read as S
 use Rattle.table.proofs.Read.Laws as S′
 use Rattle.table.proofs.RowMemory.{R}
-use Rattle.records.specs.Records.{Reads}
+use Rattle.records.specs.Inner.{Reads}
 use Rattle.records.proofs.read_rows as worked
 use Rattle.records.proofs.read_rows.Symbol as worked-def
 use Rattle.records.proofs.read_rows.Symbol.{name as #records·read-rows}

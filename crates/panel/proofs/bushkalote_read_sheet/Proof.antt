@@ -15,25 +15,10 @@ come-back c = c .before .before .before
 abbrev all-back : tie.After-slice-known8 → tie.After-read-sheet
 all-back c = come-back (c .before .before .before .before .before)
 
-read-sheet-requires : tie.Need-read-sheet-requires
-read-sheet-requires c κs = search needs
-
 read-code-requires : tie.Need-read-code-requires
 read-code-requires c κs =
     let read = all-back c .read-sheet .ensures in
     subst WithinCeilings (sym (read .0)) (reading-within _ _ _)
-
-same-length : tie.Need-same-length
-same-length c = search needs
-
-same-length-2 : tie.Need-same-length-2
-same-length-2 c = search needs
-
-same-length-3 : tie.Need-same-length-3
-same-length-3 c = search needs
-
-same-length-4 : tie.Need-same-length-4
-same-length-4 c = search needs
 
 returns : tie.Need-returns
 returns c =
@@ -44,10 +29,5 @@ pub bushkalote-read-sheet-spec : {M : Type 1} → statement M
 bushkalote-read-sheet-spec =
     tie.close
     (tie.spec
-    read-sheet-requires
-    read-code-requires
-    same-length
-    same-length-2
-    same-length-3
-    same-length-4
-    returns)
+    (λ c κs. search needs) read-code-requires (λ c. search needs) (λ c. search needs) (λ c. search needs)
+    (λ c. search needs) returns)

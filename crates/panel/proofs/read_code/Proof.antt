@@ -8,20 +8,11 @@ use native.Mathlib.Omega.{arith}
 use Rattle.panel.proofs.read_code.Statement.{statement}
 use Rattle.panel.proofs.read_code.Tie as tie
 
-enum-known-reply : tie.Need-enum-known-reply
-enum-known-reply c = search needs
-
 mul-result : tie.Need-mul-result
 mul-result c = omega (arith, subst WithinCeilings (c .before .reply .given .1) (c .before .before .before .pre))
 
 add-result : tie.Need-add-result
 add-result c = omega (arith, subst WithinCeilings (c .before .reply .given .1) (c .before .before .before .pre))
-
-enum-known-reply-2 : tie.Need-enum-known-reply-2
-enum-known-reply-2 c = search needs
-
-refusal-code-requires : tie.Need-refusal-code-requires
-refusal-code-requires c κs = search needs
 
 returns : tie.Need-returns
 returns c = sym (ap readCode (c .before .reply .given .1))
@@ -33,10 +24,4 @@ pub read-code-spec : {M : Type 1} → statement M
 read-code-spec =
     tie.close
     (tie.spec
-    enum-known-reply
-    mul-result
-    add-result
-    enum-known-reply-2
-    refusal-code-requires
-    returns
-    returns-2)
+    (λ c. search needs) mul-result add-result (λ c. search needs) (λ c κs. search needs) returns returns-2)

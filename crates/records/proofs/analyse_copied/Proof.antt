@@ -46,12 +46,6 @@ array-share-prefix-ys c = let e : length (apart (c .before .before) .args .all .
 slice-aggregate-analyse-3 : tie.Need-slice-aggregate-analyse-3
 slice-aggregate-analyse-3 c = first-n _ _ (search needs) (omega arith)
 
-analyse-requires : tie.Need-analyse-requires
-analyse-requires c κs = search needs
-
-same-length : tie.Need-same-length
-same-length c = search needs
-
 returns-2 : tie.Need-returns-2
 returns-2 c =
     let worked = c .before .before in
@@ -66,13 +60,5 @@ pub analyse-copied-spec : {M : Type 1} → statement M
 analyse-copied-spec =
     tie.close
     (tie.spec
-    returns
-    array-share-prefix-kinds
-    slice-aggregate-analyse
-    array-share-prefix-xs
-    slice-aggregate-analyse-2
-    array-share-prefix-ys
-    slice-aggregate-analyse-3
-    analyse-requires
-    same-length
-    returns-2)
+    returns array-share-prefix-kinds slice-aggregate-analyse array-share-prefix-xs slice-aggregate-analyse-2
+    array-share-prefix-ys slice-aggregate-analyse-3 (λ c κs. search needs) (λ c. search needs) returns-2)

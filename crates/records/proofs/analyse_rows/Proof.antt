@@ -45,9 +45,9 @@ use Rattle.recipe.specs.declared.Row.{Row}
 use Rattle.analysis.specs.declared.Analysed.{Analysed}
 use Rattle.analysis.proofs.Analysed as S
 use Rattle.analysis.proofs.Analysed.Laws as S′
-use Rattle.records.specs.Records.{Answers}
+use Rattle.records.specs.Inner.{Answers}
 use Rattle.numbers.specs.Sizes.{ours}
-use Rattle.table.specs.Storing.{columnsOf}
+use Rattle.table.specs.Inner.{columnsOf}
 use Rattle.table.specs.declared.Columns.{Columns}
 use Rattle.table.proofs.Columns as Cl
 use Rattle.table.proofs.Columns.Laws as Cl′

@@ -46,15 +46,6 @@ array-share-prefix-ys c = let e : length (apart (c .before .before) .args .all .
 slice-aggregate-list-pairs-3 : tie.Need-slice-aggregate-list-pairs-3
 slice-aggregate-list-pairs-3 c = first-n _ _ (search needs) (omega arith)
 
-list-pairs-requires : tie.Need-list-pairs-requires
-list-pairs-requires c κs = search needs
-
-same-length : tie.Need-same-length
-same-length c = search needs
-
-same-length-2 : tie.Need-same-length-2
-same-length-2 c = search needs
-
 returns-2 : tie.Need-returns-2
 returns-2 c =
     let worked = c .before .before .before .before in
@@ -71,14 +62,6 @@ pub list-copied-spec : {M : Type 1} → statement M
 list-copied-spec =
     tie.close
     (tie.spec
-    returns
-    array-share-prefix-kinds
-    slice-aggregate-list-pairs
-    array-share-prefix-xs
-    slice-aggregate-list-pairs-2
-    array-share-prefix-ys
-    slice-aggregate-list-pairs-3
-    list-pairs-requires
-    same-length
-    same-length-2
-    returns-2)
+    returns array-share-prefix-kinds slice-aggregate-list-pairs array-share-prefix-xs slice-aggregate-list-pairs-2
+    array-share-prefix-ys slice-aggregate-list-pairs-3 (λ c κs. search needs) (λ c. search needs)
+    (λ c. search needs) returns-2)

@@ -45,9 +45,9 @@ use Rattle.recipe.specs.declared.Row.{Row}
 use Rattle.listing.specs.declared.Listed.{Listed}
 use Rattle.listing.proofs.Listed as S
 use Rattle.listing.proofs.Listed.Laws as S′
-use Rattle.records.specs.Records.{Lists}
+use Rattle.records.specs.Inner.{Lists}
 use Rattle.numbers.specs.Sizes.{ours}
-use Rattle.table.specs.Storing.{columnsOf}
+use Rattle.table.specs.Inner.{columnsOf}
 use Rattle.table.specs.declared.Columns.{Columns}
 use Rattle.table.proofs.Columns as Cl
 use Rattle.table.proofs.Columns.Laws as Cl′

@@ -45,8 +45,8 @@ use denote.Exit.{yes}
 use Rattle.recipe.specs.declared.Row.{Row}
 use Rattle.numbers.specs.General.{laid}
 use Rattle.numbers.specs.Sizes.{ours}
-use Rattle.table.specs.Reading.{rootsOf, rowCount}
-use Rattle.table.specs.Storing.{overlaid, heldOf}
+use Rattle.table.specs.Reading.{rootsOf}
+use Rattle.table.specs.Inner.{rowCount, overlaid, heldOf}
 use Rattle.table.specs.declared.Read.{Read}
 use Rattle.table.specs.declared.Held.{Held}
 use Rattle.table.proofs.Read as S
@@ -55,7 +55,8 @@ use Rattle.table.proofs.Held as T
 use Rattle.table.proofs.Held.Laws as T′
 use Rattle.table.proofs.LocalArray as local-array
 use Rattle.table.proofs.RowMemory.{R, Rows, vals, tells, lawful}
-use Rattle.records.specs.Records.{readRecords, Reads}
+use Rattle.records.specs.Records.{readRecords}
+use Rattle.records.specs.Inner.{Reads}
 use Rattle.records.proofs.Taking.{stored-is-read}
 use Rattle.records.proofs.take_sheet as take
 use Rattle.records.proofs.take_sheet.Symbol as take-def

@@ -12,18 +12,6 @@ use Rattle.sheet.proofs.SheetForms.{sheet-within}
 use Rattle.records.proofs.take_sheet.Statement.{statement}
 use Rattle.records.proofs.take_sheet.Tie as tie
 
-hold-sheet-requires : tie.Need-hold-sheet-requires
-hold-sheet-requires c κs = search needs
-
-reported-requires : tie.Need-reported-requires
-reported-requires c κs = search needs
-
-store-roots-requires : tie.Need-store-roots-requires
-store-roots-requires c κs = search needs
-
-same-length : tie.Need-same-length
-same-length c = search needs
-
 returns : tie.Need-returns
 returns c =
     let stored = c .before .before in
@@ -41,4 +29,5 @@ returns c =
 pub take-sheet-spec : {M : Type 1} → statement M
 take-sheet-spec =
     tie.close
-    (tie.spec hold-sheet-requires reported-requires store-roots-requires same-length returns)
+    (tie.spec
+    (λ c κs. search needs) (λ c κs. search needs) (λ c κs. search needs) (λ c. search needs) returns)

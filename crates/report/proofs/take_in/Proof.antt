@@ -5,7 +5,7 @@ use native.Mathlib.Omega.{arith}
 use mathlib.Core.Path.{_≡_, refl, _∙_, subst}
 use Prim.Native.Nat.{_-_, _≤_}
 use lib.ListN.{length}
-use Rattle.report.specs.Taking.{AtMost}
+use Rattle.report.specs.Inner.{AtMost}
 use Rattle.report.proofs.take_in.Statement.{statement}
 use Rattle.report.proofs.take_in.Tie as tie
 

@@ -8,7 +8,7 @@ use Prim.Native.Nat.{ℕ, _+_, _-_}
 use native.Mathlib.Omega.{arith}
 use denote.Ref.{now}
 use Rattle.numbers.specs.Sizes.{ours}
-use Rattle.table.specs.Storing.{heldOf}
+use Rattle.table.specs.Inner.{heldOf}
 use Rattle.table.specs.declared.Room.{Room}
 use Rattle.sheet.specs.declared.lines.Step.{Step}
 use Rattle.sheet.specs.declared.lines.Step.the-variants.{KeepRow, KeepRoot, Done, Refuse}
@@ -65,29 +65,11 @@ opened c =
     let fits = sized c .within-ceilings .ensures in
     sheet-opened ours _ _ _ (sized c .before .if1 .left) (fits .0) (fits .1)
 
-refusal-requires : tie.Need-refusal-requires Inv-loop μ-loop
-refusal-requires c κs = search needs
-
 returns : tie.Need-returns Inv-loop μ-loop
 returns c = c .refusal .ensures ∙ ap heldOf (sym (sheet-too-long ours _ _ _ (c .before .if1 .taken)))
 
-within-ceilings-requires : tie.Need-within-ceilings-requires Inv-loop μ-loop
-within-ceilings-requires c κs = search needs
-
-no-rows-requires : tie.Need-no-rows-requires Inv-loop μ-loop
-no-rows-requires c κs = tt
-
-no-roots-requires : tie.Need-no-roots-requires Inv-loop μ-loop
-no-roots-requires c κs = tt
-
 loop-holds : tie.Need-loop-holds Inv-loop μ-loop
 loop-holds c = nothing-kept _ _ _ _ _ (omega arith) (omega arith) (c .before .no-rows .ensures) (c .no-roots .ensures)
-
-step-at-requires : tie.Need-step-at-requires Inv-loop μ-loop
-step-at-requires c κs = omega arith
-
-enum-known-row : tie.Need-enum-known-row Inv-loop μ-loop
-enum-known-row c = search needs
 
 mul-rows : tie.Need-mul-rows Inv-loop μ-loop
 mul-rows c = omega (arith, row-next c .0)
@@ -104,9 +86,6 @@ loop-less c = omega (arith, row-next c .0)
 loop-again : tie.Need-loop-again Inv-loop μ-loop
 loop-again c = row-next c .1
 
-enum-known-root : tie.Need-enum-known-root Inv-loop μ-loop
-enum-known-root c = search needs
-
 mul-roots : tie.Need-mul-roots Inv-loop μ-loop
 mul-roots c = omega (arith, root-next c .0)
 
@@ -122,19 +101,10 @@ loop-less-2 c = omega (arith, root-next c .0)
 loop-again-2 : tie.Need-loop-again-2 Inv-loop μ-loop
 loop-again-2 c = root-next c .1
 
-enum-told : tie.Need-enum-told Inv-loop μ-loop
-enum-told c = search needs
-
 returns-2 : tie.Need-returns-2 Inv-loop μ-loop
 returns-2 c =
     let step = c .before .before in
     right step {step = Done} (c .enum-told .given .1) ∙ ap heldOf (sym (opened (step .before)))
-
-enum-known-why : tie.Need-enum-known-why Inv-loop μ-loop
-enum-known-why c = search needs
-
-refusal-requires-2 : tie.Need-refusal-requires-2 Inv-loop μ-loop
-refusal-requires-2 c κs = search needs
 
 returns-3 : tie.Need-returns-3 Inv-loop μ-loop
 returns-3 c =
@@ -146,29 +116,7 @@ pub hold-sheet-spec : {M : Type 1} → statement M
 hold-sheet-spec =
     tie.close
     (tie.spec
-    Inv-loop
-    μ-loop
-    refusal-requires
-    returns
-    within-ceilings-requires
-    no-rows-requires
-    no-roots-requires
-    loop-holds
-    step-at-requires
-    enum-known-row
-    mul-rows
-    array-set-from-rows
-    add-n
-    loop-less
-    loop-again
-    enum-known-root
-    mul-roots
-    array-write-roots
-    add-m
-    loop-less-2
-    loop-again-2
-    enum-told
-    returns-2
-    enum-known-why
-    refusal-requires-2
-    returns-3)
+    Inv-loop μ-loop (λ c κs. search needs) returns (λ c κs. search needs) (λ c κs. tt) (λ c κs. tt) loop-holds
+    (λ c κs. omega arith) (λ c. search needs) mul-rows array-set-from-rows add-n loop-less loop-again
+    (λ c. search needs) mul-roots array-write-roots add-m loop-less-2 loop-again-2 (λ c. search needs) returns-2
+    (λ c. search needs) (λ c κs. search needs) returns-3)

@@ -8,8 +8,8 @@ use denote.Ref.{now}
 use lib.ListN.{length}
 use Rattle.numbers.specs.Sizes.{ours}
 use Rattle.recipe.specs.declared.Row.{Row}
-use Rattle.table.specs.Reading.{Reading, rowsOf}
-use Rattle.table.specs.Storing.{rowPlaces, heldOf}
+use Rattle.table.specs.Reading.{Reading, rowsOf, rowPlaces}
+use Rattle.table.specs.Inner.{heldOf}
 use Rattle.table.specs.declared.Held.{Held}
 use Rattle.table.proofs.Laying.{held-column, held-roots}
 use Rattle.sheet.specs.Reading.{readSheet, readInto}
@@ -38,36 +38,6 @@ held c =
 -- The slices come back one by one.
 abbrev come-back : tie.After-xs → tie.After-store-rows
 come-back c = c .before .before .before
-
-least-requires : tie.Need-least-requires
-least-requires c κs = search needs
-
-least-requires-2 : tie.Need-least-requires-2
-least-requires-2 c κs = search needs
-
-hold-sheet-requires : tie.Need-hold-sheet-requires
-hold-sheet-requires c κs = search needs
-
-reported-requires : tie.Need-reported-requires
-reported-requires c κs = search needs
-
-store-rows-requires : tie.Need-store-rows-requires
-store-rows-requires c κs = search needs
-
-store-roots-requires : tie.Need-store-roots-requires
-store-roots-requires c κs = search needs
-
-same-length : tie.Need-same-length
-same-length c = search needs
-
-same-length-2 : tie.Need-same-length-2
-same-length-2 c = search needs
-
-same-length-3 : tie.Need-same-length-3
-same-length-3 c = search needs
-
-same-length-4 : tie.Need-same-length-4
-same-length-4 c = search needs
 
 returns : tie.Need-returns
 returns c =
@@ -98,14 +68,6 @@ pub read-sheet-spec : {M : Type 1} → statement M
 read-sheet-spec =
     tie.close
     (tie.spec
-    least-requires
-    least-requires-2
-    hold-sheet-requires
-    reported-requires
-    store-rows-requires
-    store-roots-requires
-    same-length
-    same-length-2
-    same-length-3
-    same-length-4
-    returns)
+    (λ c κs. search needs) (λ c κs. search needs) (λ c κs. search needs) (λ c κs. search needs)
+    (λ c κs. search needs) (λ c κs. search needs) (λ c. search needs) (λ c. search needs) (λ c. search needs)
+    (λ c. search needs) returns)

@@ -53,7 +53,7 @@ use Rattle.numbers.specs.Sizes.{rowCeiling}
 use Rattle.recipe.specs.declared.Row.{Row}
 use Rattle.recipe.proofs.Row as T
 use Rattle.recipe.proofs.Row.Laws as T′
-use Rattle.table.specs.Storing.{zeros, blank, column, columnsOf}
+use Rattle.table.specs.Inner.{zeros, blank, column, columnsOf}
 use Rattle.table.specs.declared.Columns.{Columns}
 use Rattle.table.proofs.RowMemory.{R, rowTy, vals, tells, copies, row-typed}
 use Rattle.table.proofs.Overlaid.{stored, length-stored, stored-overlaid}

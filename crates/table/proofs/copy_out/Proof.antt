@@ -51,7 +51,7 @@ use denote.Triple.Walked.{says, Stays, stay-none, stay-slice, walkOf, goes-none,
 use denote.Exit.{yes}
 use Rattle.numbers.specs.Sizes.{rowCeiling}
 use Rattle.recipe.specs.declared.Row.{Row}
-use Rattle.table.specs.Storing.{blank, overlaid}
+use Rattle.table.specs.Inner.{blank, overlaid}
 use Rattle.table.proofs.Overlaid.{stored, length-stored, stored-overlaid}
 use Rattle.table.proofs.CountedLoop.{counted-loop}
 use Rattle.table.proofs.LocalArray as local-array

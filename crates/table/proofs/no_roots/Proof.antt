@@ -1,7 +1,7 @@
 -- `no_roots` meets its contract, which says what is written.
 -- Assumes nothing.
 use mathlib.Core.Path.{refl}
-use Rattle.table.specs.Storing.{noRoots}
+use Rattle.table.specs.Inner.{noRoots}
 use Rattle.table.proofs.no_roots.Statement.{statement}
 use Rattle.table.proofs.no_roots.Tie as tie
 

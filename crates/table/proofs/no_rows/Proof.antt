@@ -1,7 +1,7 @@
 -- `no_rows` meets its contract, which says what is written.
 -- Assumes nothing.
 use mathlib.Core.Path.{refl}
-use Rattle.table.specs.Storing.{noRows}
+use Rattle.table.specs.Inner.{noRows}
 use Rattle.table.proofs.no_rows.Statement.{statement}
 use Rattle.table.proofs.no_rows.Tie as tie
 

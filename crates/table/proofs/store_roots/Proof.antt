@@ -8,7 +8,7 @@ use denote.Ref.{now}
 use lib.ListN.{length}
 use borrow.Author.Needs.{needs}
 use Rattle.numbers.specs.Sizes.{ours}
-use Rattle.table.specs.Storing.{overlaid}
+use Rattle.table.specs.Inner.{overlaid}
 use Rattle.table.proofs.Overlaid.{Storing, storing-begins, storing-goes-on, storing-ends}
 use Rattle.table.proofs.store_roots.Statement.{statement}
 use Rattle.table.proofs.store_roots.Tie as tie
@@ -22,32 +22,8 @@ Inv-loop roots₀ n read m i₀ roots i = (i ≤ m) × Storing same 0 read roots
 abbrev μ-loop : tie.MeasureT-loop
 μ-loop roots₀ n read m i₀ roots i = m - i
 
-least-requires : tie.Need-least-requires Inv-loop μ-loop
-least-requires c κs = search needs
-
-least-requires-2 : tie.Need-least-requires-2 Inv-loop μ-loop
-least-requires-2 c κs = search needs
-
 loop-holds : tie.Need-loop-holds Inv-loop μ-loop
 loop-holds c = (omega arith, storing-begins same 0)
-
-mul-roots : tie.Need-mul-roots Inv-loop μ-loop
-mul-roots c = omega arith
-
-array-read-roots : tie.Need-array-read-roots Inv-loop μ-loop
-array-read-roots c = omega arith
-
-mul-roots-2 : tie.Need-mul-roots-2 Inv-loop μ-loop
-mul-roots-2 c = omega arith
-
-slice-write-roots : tie.Need-slice-write-roots Inv-loop μ-loop
-slice-write-roots c = omega arith
-
-add-i : tie.Need-add-i Inv-loop μ-loop
-add-i c = omega arith
-
-loop-less : tie.Need-loop-less Inv-loop μ-loop
-loop-less c = omega arith
 
 loop-again : tie.Need-loop-again Inv-loop μ-loop
 loop-again c = (omega arith, storing-goes-on same 0 (c .before .loop .inv .1))
@@ -67,17 +43,5 @@ pub store-roots-spec : {M : Type 1} → statement M
 store-roots-spec =
     tie.close
     (tie.spec
-    Inv-loop
-    μ-loop
-    least-requires
-    least-requires-2
-    loop-holds
-    mul-roots
-    array-read-roots
-    mul-roots-2
-    slice-write-roots
-    add-i
-    loop-less
-    loop-again
-    same-length
-    returns)
+    Inv-loop μ-loop (λ c κs. search needs) (λ c κs. search needs) loop-holds (λ c. omega arith) (λ c. omega arith)
+    (λ c. omega arith) (λ c. omega arith) (λ c. omega arith) (λ c. omega arith) loop-again same-length returns)

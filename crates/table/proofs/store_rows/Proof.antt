@@ -9,7 +9,8 @@ use lib.ListN.{length}
 use borrow.Author.Needs.{needs}
 use Rattle.numbers.specs.Sizes.{rowCeiling}
 use Rattle.recipe.specs.declared.Row.{Row}
-use Rattle.table.specs.Storing.{blank, rowPlaces}
+use Rattle.table.specs.Inner.{blank}
+use Rattle.table.specs.Reading.{rowPlaces}
 use Rattle.table.proofs.Overlaid.{Storing, storing-begins, storing-goes-on, storing-ends}
 use Rattle.table.proofs.store_rows.Statement.{statement}
 use Rattle.table.proofs.store_rows.Tie as tie
@@ -41,44 +42,17 @@ abbrev μ-loop : tie.MeasureT-loop
 abbrev lent : tie.After-least Inv-loop μ-loop → tie.Start Inv-loop μ-loop
 lent c = c .before .before .before .before
 
-least-requires : tie.Need-least-requires Inv-loop μ-loop
-least-requires c κs = search needs
-
-least-requires-2 : tie.Need-least-requires-2 Inv-loop μ-loop
-least-requires-2 c κs = search needs
-
-rows-stored-requires : tie.Need-rows-stored-requires Inv-loop μ-loop
-rows-stored-requires c κs = search needs
-
 loop-holds : tie.Need-loop-holds Inv-loop μ-loop
 loop-holds c = (omega arith, (storing-begins kind blank, (storing-begins first blank, storing-begins second blank)))
-
-mul-row : tie.Need-mul-row Inv-loop μ-loop
-mul-row c = omega arith
-
-array-copy-out-row : tie.Need-array-copy-out-row Inv-loop μ-loop
-array-copy-out-row c = omega arith
 
 slice-write-kinds : tie.Need-slice-write-kinds Inv-loop μ-loop
 slice-write-kinds c = omega (arith, c .before .before .loop .inv .1 .0 .size)
 
-mul-xs : tie.Need-mul-xs Inv-loop μ-loop
-mul-xs c = omega arith
-
 slice-write-xs : tie.Need-slice-write-xs Inv-loop μ-loop
 slice-write-xs c = omega (arith, c .before .before .loop .inv .1 .1 .0 .size)
 
-mul-ys : tie.Need-mul-ys Inv-loop μ-loop
-mul-ys c = omega arith
-
 slice-write-ys : tie.Need-slice-write-ys Inv-loop μ-loop
 slice-write-ys c = omega (arith, c .before .before .loop .inv .1 .1 .1 .size)
-
-add-i : tie.Need-add-i Inv-loop μ-loop
-add-i c = omega arith
-
-loop-less : tie.Need-loop-less Inv-loop μ-loop
-loop-less c = omega arith
 
 loop-again : tie.Need-loop-again Inv-loop μ-loop
 loop-again c =
@@ -115,23 +89,7 @@ pub store-rows-spec : {M : Type 1} → statement M
 store-rows-spec =
     tie.close
     (tie.spec
-    Inv-loop
-    μ-loop
-    least-requires
-    least-requires-2
-    rows-stored-requires
-    loop-holds
-    mul-row
-    array-copy-out-row
-    slice-write-kinds
-    mul-xs
-    slice-write-xs
-    mul-ys
-    slice-write-ys
-    add-i
-    loop-less
-    loop-again
-    same-length
-    same-length-2
-    same-length-3
+    Inv-loop μ-loop (λ c κs. search needs) (λ c κs. search needs) (λ c κs. search needs) loop-holds
+    (λ c. omega arith) (λ c. omega arith) slice-write-kinds (λ c. omega arith) slice-write-xs (λ c. omega arith)
+    slice-write-ys (λ c. omega arith) (λ c. omega arith) loop-again same-length same-length-2 same-length-3
     returns)

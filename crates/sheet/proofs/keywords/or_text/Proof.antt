@@ -6,22 +6,13 @@ use Rattle.text.proofs.TokenLaws.{text-field}
 use Rattle.sheet.proofs.keywords.or_text.Statement.{statement}
 use Rattle.sheet.proofs.keywords.or_text.Tie as tie
 
-enum-told : tie.Need-enum-told
-enum-told c = search needs
-
-enum-told-2 : tie.Need-enum-told-2
-enum-told-2 c = search needs
-
-text-at-requires : tie.Need-text-at-requires
-text-at-requires c κs = search needs
-
-returns : tie.Need-returns
-returns c = search needs
-
 returns-2 : tie.Need-returns-2
 returns-2 c =
     let a = c .before .before .before .before .before .args in
     rw (c .before .enum-told2 .given .1) (text-field (now (a .bytes)) (a .at) (now (a .text)) (a .n) (c .text-at .ensures))
 
 pub or-text-spec : {M : Type 1} → statement M
-or-text-spec = tie.close (tie.spec enum-told enum-told-2 text-at-requires returns returns-2)
+or-text-spec =
+    tie.close
+    (tie.spec
+    (λ c. search needs) (λ c. search needs) (λ c κs. search needs) (λ c. search needs) returns-2)

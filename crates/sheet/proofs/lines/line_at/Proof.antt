@@ -34,37 +34,10 @@ root-mark c =
 returns : tie.Need-returns
 returns c = sheet-ends _ _ (c .if1 .taken)
 
-slice-aggregate-text-at : tie.Need-slice-aggregate-text-at
-slice-aggregate-text-at c = search needs
-
-text-at-requires : tie.Need-text-at-requires
-text-at-requires c κs = search needs
-
-enum-known-next : tie.Need-enum-known-next
-enum-known-next c = search needs
-
-row-at-requires : tie.Need-row-at-requires
-row-at-requires c κs = search needs
-
 returns-2 : tie.Need-returns-2
 returns-2 c =
     let read = c .before .before .before .before in
     c .row-at .ensures ∙ begins-row _ _ (read .before .before .if1 .left) (told _ (c .before .before .next .given .1) (row-mark read))
-
-enum-told : tie.Need-enum-told
-enum-told c = search needs
-
-slice-aggregate-text-at-2 : tie.Need-slice-aggregate-text-at-2
-slice-aggregate-text-at-2 c = search needs
-
-text-at-requires-2 : tie.Need-text-at-requires-2
-text-at-requires-2 c κs = search needs
-
-enum-known-next-2 : tie.Need-enum-known-next-2
-enum-known-next-2 c = search needs
-
-root-at-requires : tie.Need-root-at-requires
-root-at-requires c κs = search needs
 
 returns-3 : tie.Need-returns-3
 returns-3 c =
@@ -74,9 +47,6 @@ returns-3 c =
     c .root-at .ensures
     ∙ begins-root _ _ (first .before .before .if1 .left) (told _ (other .enum-told .given .1) (row-mark first))
     (told _ (c .before .before .next2 .given .1) (root-mark second))
-
-enum-told-2 : tie.Need-enum-told-2
-enum-told-2 c = search needs
 
 returns-4 : tie.Need-returns-4
 returns-4 c =
@@ -90,17 +60,6 @@ pub line-at-spec : {M : Type 1} → statement M
 line-at-spec =
     tie.close
     (tie.spec
-    returns
-    slice-aggregate-text-at
-    text-at-requires
-    enum-known-next
-    row-at-requires
-    returns-2
-    enum-told
-    slice-aggregate-text-at-2
-    text-at-requires-2
-    enum-known-next-2
-    root-at-requires
-    returns-3
-    enum-told-2
-    returns-4)
+    returns (λ c. search needs) (λ c κs. search needs) (λ c. search needs) (λ c κs. search needs) returns-2
+    (λ c. search needs) (λ c. search needs) (λ c κs. search needs) (λ c. search needs) (λ c κs. search needs)
+    returns-3 (λ c. search needs) returns-4)

@@ -19,15 +19,6 @@ read :
     fieldOf (now (a .bytes)) (c .number-at .result) ≡ numberAt newline (drop (a .at) (now (a .bytes)))
 read c = let a = c .before .before .args in number-field (now (a .bytes)) (a .at) newline (c .number-at .ensures)
 
-number-at-requires : tie.Need-number-at-requires
-number-at-requires c κs = search needs
-
-enum-known-root : tie.Need-enum-known-root
-enum-known-root c = search needs
-
-enum-told : tie.Need-enum-told
-enum-told c = search needs
-
 returns : tie.Need-returns
 returns c = no-root _ (told _ (c .enum-told .given .1) (read (c .before .before)))
 
@@ -35,4 +26,7 @@ returns-2 : tie.Need-returns-2
 returns-2 c = root-read _ _ _ (told _ (c .before .root .given .1) (read (c .before .before .before)))
 
 pub root-at-spec : {M : Type 1} → statement M
-root-at-spec = tie.close (tie.spec number-at-requires enum-known-root enum-told returns returns-2)
+root-at-spec =
+    tie.close
+    (tie.spec
+    (λ c κs. search needs) (λ c. search needs) (λ c. search needs) returns returns-2)

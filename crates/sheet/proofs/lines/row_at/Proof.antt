@@ -70,40 +70,13 @@ y-read c =
     let v = c .before .before in
     number-field (bytes (start (kind-at v))) (after-x v) newline (c .number-at2 .ensures)
 
-keyword-at-requires : tie.Need-keyword-at-requires
-keyword-at-requires c κs = search needs
-
-enum-known-kind : tie.Need-enum-known-kind
-enum-known-kind c = search needs
-
-enum-told : tie.Need-enum-told
-enum-told c = search needs
-
 returns : tie.Need-returns
 returns c = no-keyword _ (told _ (c .enum-told .given .1) (c .before .before .keyword-at .ensures))
-
-number-at-requires : tie.Need-number-at-requires
-number-at-requires c κs = search needs
-
-enum-known-x : tie.Need-enum-known-x
-enum-known-x c = search needs
-
-enum-told-2 : tie.Need-enum-told-2
-enum-told-2 c = search needs
 
 returns-2 : tie.Need-returns-2
 returns-2 c =
     let read = c .before .before in
     no-x _ _ _ (kind-found (read .before .before)) (told _ (c .enum-told2 .given .1) (x-read read))
-
-number-at-requires-2 : tie.Need-number-at-requires-2
-number-at-requires-2 c κs = search needs
-
-enum-known-y : tie.Need-enum-known-y
-enum-known-y c = search needs
-
-enum-told-3 : tie.Need-enum-told-3
-enum-told-3 c = search needs
 
 returns-3 : tie.Need-returns-3
 returns-3 c =
@@ -124,17 +97,6 @@ pub row-at-spec : {M : Type 1} → statement M
 row-at-spec =
     tie.close
     (tie.spec
-    keyword-at-requires
-    enum-known-kind
-    enum-told
-    returns
-    number-at-requires
-    enum-known-x
-    enum-told-2
-    returns-2
-    number-at-requires-2
-    enum-known-y
-    enum-told-3
-    returns-3
-    cast-t12
-    returns-4)
+    (λ c κs. search needs) (λ c. search needs) (λ c. search needs) returns (λ c κs. search needs)
+    (λ c. search needs) (λ c. search needs) returns-2 (λ c κs. search needs) (λ c. search needs)
+    (λ c. search needs) returns-3 cast-t12 returns-4)

@@ -22,27 +22,6 @@ decided c e h =
     let a = c .before .before .args in
     sym h ∙ ap (stepOf (a .room .rows) (a .room .roots) (a .n) (a .m)) (ap (lineOf (now (a .bytes))) (sym e) ∙ c .line-at .ensures)
 
-add-t13 : tie.Need-add-t13
-add-t13 c = search needs
-
-cast-t14 : tie.Need-cast-t14
-cast-t14 c = search needs
-
-line-at-requires : tie.Need-line-at-requires
-line-at-requires c κs = search needs
-
-enum-told : tie.Need-enum-told
-enum-told c = search needs
-
-enum-told-2 : tie.Need-enum-told-2
-enum-told-2 c = search needs
-
-enum-known-row : tie.Need-enum-known-row
-enum-known-row c = search needs
-
-enum-known-root : tie.Need-enum-known-root
-enum-known-root c = search needs
-
 returns : tie.Need-returns
 returns c = let found = c .before .before in decided (found .before .before) (found .root .given .1) (root-lacks-room _ _ _ _ _ _ (c .if3 .taken))
 
@@ -74,17 +53,5 @@ pub step-at-spec : {M : Type 1} → statement M
 step-at-spec =
     tie.close
     (tie.spec
-    add-t13
-    cast-t14
-    line-at-requires
-    enum-told
-    enum-told-2
-    enum-known-row
-    enum-known-root
-    returns
-    returns-2
-    returns-3
-    returns-4
-    returns-5
-    returns-6
-    returns-7)
+    (λ c. search needs) (λ c. search needs) (λ c κs. search needs) (λ c. search needs) (λ c. search needs)
+    (λ c. search needs) (λ c. search needs) returns returns-2 returns-3 returns-4 returns-5 returns-6 returns-7)

@@ -1,4 +1,4 @@
--- Rows and roots held in arrays, laid over lent places, and copied.
+-- Only the contracts of functions below the entries speak of these: rows and roots held in arrays, laid over lent places, and copied.
 use mathlib.Core.List.{List, [], _∷_}
 use Prim.Native.Nat.{ℕ, zero, suc, min}
 use lib.ListN.{length, replicate}
@@ -9,6 +9,8 @@ use Rattle.recipe.specs.declared.Row.{Row}
 use Rattle.table.specs.Reading.{Reading, rowsOf, rootsOf, replyOf}
 use Rattle.table.specs.declared.Columns.{Columns}
 use Rattle.table.specs.declared.Held.{Held}
+use Rattle.table.specs.declared.Read.{Read}
+use Rattle.table.specs.declared.Read.the-variants.{Stored, Refused}
 
 -- The first n of the new elements over the first of the old ones, as far as both go; the old ones after them stay.
 unfoldable pub overlaid : {A : Type 0} → ℕ → List A → List A → List A
@@ -16,10 +18,6 @@ overlaid zero new old = old
 overlaid (suc n) [] old = old
 overlaid (suc n) (x ∷ new) [] = []
 overlaid (suc n) (x ∷ new) (y ∷ old) = x ∷ overlaid n new old
-
--- How many rows three slices have places for: as many as the shortest.
-abbrev pub rowPlaces : List ℕ → List ℕ → List ℕ → ℕ
-rowPlaces kinds xs ys = min (length kinds) (min (length xs) (length ys))
 
 -- So many zeros.
 unfoldable pub zeros : ℕ → List ℕ
@@ -48,3 +46,13 @@ column numbers = overlaid rowCeiling numbers (zeros rowCeiling)
 -- The fields of rows, each in a column of its own.
 abbrev pub columnsOf : List Row → Columns
 columnsOf rows = record { kinds = column (kindsOf rows); xs = column (xsOf rows); ys = column (ysOf rows) }
+
+-- The number of rows that a reply reports, 0 where it refuses.
+abbrev pub rowCount : Read → ℕ
+rowCount (Stored n m) = n
+rowCount (Refused why) = 0
+
+-- The number of roots that a reply reports, 0 where it refuses.
+abbrev pub rootCount : Read → ℕ
+rootCount (Stored n m) = m
+rootCount (Refused why) = 0

@@ -1,4 +1,4 @@
--- What reading a piece of the input may come to.
+-- Only the contracts of inner functions speak of this: what reading a piece of the input may come to.
 use Prim.Native.Nat.{ℕ, _≤_}
 use Rattle.report.specs.declared.Taken.{Taken}
 use Rattle.report.specs.declared.Taken.the-variants.{Bytes, Failed}
