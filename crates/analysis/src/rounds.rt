@@ -45,8 +45,8 @@ fn one_body(
     held: &[u64],
     f: ProcNumber,
 )
-    requires { ⌜ Turn ours (now new) (now kinds) (now xs) (now ys) (now roots) (now held) ⌝ }
-    requires { ⌜ f .0 < length (now roots) ⌝ }
+    requires turn { ⌜ Turn ours (now new) (now kinds) (now xs) (now ys) (now roots) (now held) ⌝ }
+    requires there { ⌜ f .0 < length (now roots) ⌝ }
     ensures { λ _. let t = tableOf (now (kinds .entry)) (now (xs .entry)) (now (ys .entry)) (now (roots .entry)) in
         let x = bodyWords (ours .words) (programOf t) (now (held .entry)) in
         ⌜ now (new .exit) ≡ storedAt (ours .words) (now (new .entry)) (f .0) (x (f .0)) ⌝ }
@@ -76,8 +76,8 @@ fn round(new: &mut [u64], kinds: &[u8], xs: &[u16], ys: &[u16], roots: &[u16], h
 
 // Rounds from empty summaries until one repeats. The lent matrix then holds main's pairs, and the count of rounds is handed back.
 pub(crate) fn run(matrix: &mut [u64], kinds: &[u8], xs: &[u16], ys: &[u16], roots: &[u16]) -> u32
-    requires { ⌜ admitted ours (tableOf (now kinds) (now xs) (now ys) (now roots)) ⌝ }
-    requires { ⌜ matrixWords (ours .words) ≤ length (now matrix) ⌝ }
+    requires ok { ⌜ admitted ours (tableOf (now kinds) (now xs) (now ys) (now roots)) ⌝ }
+    requires room { ⌜ matrixWords (ours .words) ≤ length (now matrix) ⌝ }
     ensures count { λ r. let t = tableOf (now (kinds .entry)) (now (xs .entry)) (now (ys .entry)) (now (roots .entry)) in
         ⌜ r ≡ rounds (ours .words) (programOf t) ⌝ }
     ensures pairs { λ _. let t = tableOf (now (kinds .entry)) (now (xs .entry)) (now (ys .entry)) (now (roots .entry)) in

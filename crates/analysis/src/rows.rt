@@ -48,8 +48,8 @@ fn around(pairs: &mut [u64], kind: u8, body: LabelSummary) -> LabelSummary
 
 // A call: the summary held for the procedure.
 fn called(pairs: &mut [u64], held: &[u64], callee: ProcNumber) -> LabelSummary
-    requires { ⌜ callee .0 < ours .procs ⌝ }
-    requires { ⌜ length (now held) ≡ stateWords ours ⌝ }
+    requires there { ⌜ callee .0 < ours .procs ⌝ }
+    requires state { ⌜ length (now held) ≡ stateWords ours ⌝ }
     ensures { λ r. let x = heldFor (ours .words) (now (held .entry)) (callee .0) in
         ⌜ summaryWords r (now (pairs .exit)) ≡ markedInto (ours .words) (now (pairs .entry)) x ⌝ }
 {

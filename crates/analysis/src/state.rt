@@ -24,9 +24,9 @@ pub(crate) fn empty() -> [u64; STATE_WORDS]
 
 // Whether a state repeats another: the same summaries of the first so many procedures.
 pub(crate) fn repeats(new: &[u64], held: &[u64], procs: usize) -> bool
-    requires { ⌜ procs ≤ ours .procs ⌝ }
-    requires { ⌜ length (now new) ≡ stateWords ours ⌝ }
-    requires { ⌜ length (now held) ≡ stateWords ours ⌝ }
+    requires few { ⌜ procs ≤ ours .procs ⌝ }
+    requires room { ⌜ length (now new) ≡ stateWords ours ⌝ }
+    requires state { ⌜ length (now held) ≡ stateWords ours ⌝ }
     ensures { λ r. ⌜ r ≡ alike (procs * blockWords (ours .words)) (now (new .entry)) (now (held .entry)) ⌝ }
 {
     let mut i = procs * BLOCK_WORDS;

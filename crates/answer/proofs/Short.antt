@@ -21,7 +21,7 @@ use Rattle.recipe.specs.declared.Judged.the-variants.{Admitted, Refused}
 use Rattle.recipe.specs.declared.Row.{Row}
 use Rattle.table.specs.Reading.{Reading, table, refused}
 use Rattle.sheet.specs.Reading.{readSheet}
-use Rattle.sheet.proofs.SheetForms.{Within, sheet-within}
+use Rattle.sheet.proofs.SheetForms.{InRoom, sheet-within}
 use Rattle.listing.specs.Listing.{longestListing}
 use Rattle.listing.specs.Replies.{fitted, heldAfter}
 use Rattle.listing.specs.declared.Listed.{Listed}
@@ -64,7 +64,7 @@ judged-short :
 judged-short t Admitted e h p = recipe-listing-short t e
 judged-short t (Refused r) e h p = line-short r (le-trans p h)
 
-reading-short : (w : Reading) → Within rowCeiling (ours .procs) w → ReadWithin placeCeiling w → length (answerToReading ours w) ≤ longestListing
+reading-short : (w : Reading) → InRoom rowCeiling (ours .procs) w → ReadWithin placeCeiling w → length (answerToReading ours w) ≤ longestListing
 reading-short (table rows roots) few p =
     let t = tableOfRows rows roots in
     judged-short t (judged ours t) refl (omega (arith, few .rows, few .roots, length-map rows (λ (row : Row). row .kind))) (place-within ours t)

@@ -31,8 +31,8 @@ fn bit_of(set: u64, proc: ProcNumber) -> u64
 
 // The procedures that a row's statement calls.
 fn row_calls(kinds: &[u8], xs: &[u16], ys: &[u16], row: RowNumber) -> u64
-    requires { ⌜ OfAdmitted ours (now kinds) (now xs) (now ys) ⌝ }
-    requires { ⌜ row .0 < length (now kinds) ⌝ }
+    requires table { ⌜ OfAdmitted ours (now kinds) (now xs) (now ys) ⌝ }
+    requires there { ⌜ row .0 < length (now kinds) ⌝ }
     ensures { λ r. let t = rowsAlone (now (kinds .entry)) (now (xs .entry)) (now (ys .entry)) in ⌜ r ≡ callsOf (statementAt t (row .0)) ⌝ }
 {
     let i = row.0 as usize;

@@ -53,8 +53,8 @@ fn listing_length(pairs: &[u64], count: u32, rounds: u32, wide: bool) -> usize
 
 // Puts the listing to the front of the bytes.
 fn put_listing(bytes: &mut [u8], pairs: &[u64], count: u32, rounds: u32, wide: bool)
-    requires { ⌜ (count ≡ pairsAtOrAbove (ours .words) (now pairs)) × (length (now pairs) ≡ matrixWords (ours .words)) ⌝ }
-    requires { ⌜ length (listing (ours .words) (now pairs) rounds wide) ≤ length (now bytes) ⌝ }
+    requires whole { ⌜ (count ≡ pairsAtOrAbove (ours .words) (now pairs)) × (length (now pairs) ≡ matrixWords (ours .words)) ⌝ }
+    requires fits { ⌜ length (listing (ours .words) (now pairs) rounds wide) ≤ length (now bytes) ⌝ }
     ensures { λ _. ⌜ now (bytes .exit) ≡ laid (listing (ours .words) (now (pairs .entry)) rounds wide) (now (bytes .entry)) ⌝ }
 {
     let at = lines::put_opening(bytes, count as usize, rounds as usize, wide);

@@ -92,8 +92,8 @@ fn put_pair(bytes: &mut [u8], at: usize, partners: u64, i: Label, j: Label) -> u
 // The length of the lines of one label's pairs.
 fn row_length(partners: u64, i: Label) -> usize
     requires { ⌜ i .0 < labelCeiling (ours .words) ⌝ }
-    ensures { λ r. ⌜ r ≡ length (lines (pairsOf (ours .words) (partners ∷ []) (i .0))) ⌝ }
-    ensures { λ r. ⌜ r ≤ 42 * labelCeiling (ours .words) ⌝ }
+    ensures spelt { λ r. ⌜ r ≡ length (lines (pairsOf (ours .words) (partners ∷ []) (i .0))) ⌝ }
+    ensures few { λ r. ⌜ r ≤ 42 * labelCeiling (ours .words) ⌝ }
 {
     let mut sum = 0;
     let mut j = i.0 as usize;
@@ -121,8 +121,8 @@ fn put_row(bytes: &mut [u8], at: usize, partners: u64, i: Label) -> usize
 // The length of the lines of all pairs.
 pub(crate) fn pairs_length(matrix: &[u64]) -> usize
     requires { ⌜ length (now matrix) ≡ matrixWords (ours .words) ⌝ }
-    ensures { λ r. ⌜ r ≡ length (lines (pairs (ours .words) (now (matrix .entry)))) ⌝ }
-    ensures { λ r. ⌜ r ≤ 42 * labelCeiling (ours .words) * labelCeiling (ours .words) ⌝ }
+    ensures spelt { λ r. ⌜ r ≡ length (lines (pairs (ours .words) (now (matrix .entry)))) ⌝ }
+    ensures few { λ r. ⌜ r ≤ 42 * labelCeiling (ours .words) * labelCeiling (ours .words) ⌝ }
 {
     let mut sum = 0;
     let mut i = 0;

@@ -6,10 +6,10 @@ use native.Mathlib.Omega.{arith}
 use Rattle.numbers.specs.Sizes.{ours, rowCeiling}
 use Rattle.table.specs.Reading.{Reading, table, refused, replyOf}
 use Rattle.sheet.specs.Reading.{readSheet}
-use Rattle.sheet.proofs.SheetForms.{Within, sheet-within}
+use Rattle.sheet.proofs.SheetForms.{InRoom, sheet-within}
 use Rattle.panel.specs.Inner.{WithinCeilings}
 
-reply-within : (R P : ℕ) (w : Reading) → Within (min rowCeiling R) (min (ours .procs) P) w → WithinCeilings (replyOf w)
+reply-within : (R P : ℕ) (w : Reading) → InRoom (min rowCeiling R) (min (ours .procs) P) w → WithinCeilings (replyOf w)
 reply-within R P (table rows roots) c = (omega (arith, c .rows), omega (arith, c .roots))
 reply-within R P (refused why) c = tt
 

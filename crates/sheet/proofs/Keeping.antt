@@ -26,7 +26,7 @@ abbrev pub whole : List ℕ → ℕ → ℕ → Reading
 whole bytes R P = readLines R P (length bytes) [] [] bytes
 
 -- The state of the loop: these rows and roots are kept at the front of the arrays, n and m of them, and the bytes from place `at` on are left.
-pub record Kept (bytes : List ℕ) (R P : ℕ) (rows : List Row) (roots : List ℕ) (at n m : ℕ) : Type 0 where
+pub record KeptSoFar (bytes : List ℕ) (R P : ℕ) (rows : List Row) (roots : List ℕ) (at n m : ℕ) : Type 0 where
   pub kept : List Row
   pub kept-roots : List ℕ
   pub lines : ℕ
@@ -43,14 +43,14 @@ pub record Kept (bytes : List ℕ) (R P : ℕ) (rows : List Row) (roots : List �
 
 -- What holds after a step: the next state, or the reading is decided.
 abbrev pub After : List ℕ → ℕ → ℕ → List Row → List ℕ → ℕ → ℕ → Step → Type 0
-After bytes R P rows roots n m (KeepRow row next) = (n < R) × Kept bytes R P (set rows n row) roots next (n + 1) m
-After bytes R P rows roots n m (KeepRoot root next) = (m < P) × Kept bytes R P rows (set roots m root) next n (m + 1)
+After bytes R P rows roots n m (KeepRow row next) = (n < R) × KeptSoFar bytes R P (set rows n row) roots next (n + 1) m
+After bytes R P rows roots n m (KeepRoot root next) = (m < P) × KeptSoFar bytes R P rows (set roots m root) next n (m + 1)
 After bytes R P rows roots n m Done = (record { rows = rows; roots = roots; reply = Stored n m }) ≡ heldOf (whole bytes R P)
 After bytes R P rows roots n m (Refuse why) = whole bytes R P ≡ refused why
 
 pub nothing-kept :
     (bytes : List ℕ) (R P : ℕ) (rows : List Row) (roots : List ℕ) → R ≤ rowCeiling → P ≤ ours .procs
-    → rows ≡ noRows → roots ≡ noRoots → Kept bytes R P rows roots 0 0 0
+    → rows ≡ noRows → roots ≡ noRoots → KeptSoFar bytes R P rows roots 0 0 0
 nothing-kept bytes R P rows roots r p a b =
     record {
       kept = [];
@@ -73,7 +73,7 @@ one-more l x e = omega (arith, length-append l (x ∷ []))
 
 module _
     {bytes : List ℕ} {R P : ℕ} {rows : List Row} {roots : List ℕ} {at n m : ℕ}
-    (c : Kept bytes R P rows roots at n m)
+    (c : KeptSoFar bytes R P rows roots at n m)
   where
     -- Reading goes on by the step.
     goes-on :

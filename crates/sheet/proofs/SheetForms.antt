@@ -36,11 +36,11 @@ offence-of (spelled-whole r) e = let z : _≡_ {A = ℕ} 0 1 = cc in absurd (ome
 offence-of {R} {P} {bytes} {why = why} (offended {why = other} o) e = let same : other ≡ why = cc in subst (Offence R P bytes) same o
 
 -- A reading takes at most so many places.
-pub record Within (rowRoom rootRoom : ℕ) (w : Reading) : Type 0 where
+pub record InRoom (rowRoom rootRoom : ℕ) (w : Reading) : Type 0 where
   pub rows : length (rowsOf w) ≤ rowRoom
   pub roots : length (rootsOf w) ≤ rootRoom
 
-within : {R P : ℕ} {bytes : List ℕ} (w : Reading) → Outcome R P bytes w → Within R P w
+within : {R P : ℕ} {bytes : List ℕ} (w : Reading) → Outcome R P bytes w → InRoom R P w
 within (table rows roots) (spelled-whole r) = record { rows = r .rowsFit; roots = r .rootsFit }
 within (refused why) o = record { rows = omega arith; roots = omega arith }
 
@@ -64,10 +64,10 @@ module _ (z : Size) (rowsLent rootsLent : ℕ) where
         rootsFit = omega arith;
       }))
 
-  pub sheet-within : (bytes : List ℕ) → Within rowRoom rootRoom (readSheet z rowsLent rootsLent bytes)
+  pub sheet-within : (bytes : List ℕ) → InRoom rowRoom rootRoom (readSheet z rowsLent rootsLent bytes)
   sheet-within bytes = by-size (decLe (length bytes) sheetCeiling)
     where
-      by-size : Dec (length bytes ≤ sheetCeiling) → Within rowRoom rootRoom (readSheet z rowsLent rootsLent bytes)
+      by-size : Dec (length bytes ≤ sheetCeiling) → InRoom rowRoom rootRoom (readSheet z rowsLent rootsLent bytes)
       by-size (yes h) = within (readSheet z rowsLent rootsLent bytes) (sheet-outcome bytes h)
       by-size (no h) =
           rw (sheet-too-long z rowsLent rootsLent bytes (omega arith)) (record { rows = omega arith; roots = omega arith })

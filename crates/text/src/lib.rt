@@ -43,8 +43,8 @@ fn is_digit(b: u8) -> bool
 // The number that begins with the digits of another and goes on at this place, by at most so many digits, up to a byte.
 fn digits_at(bytes: &[u8], at: usize, stop: u8, most: u8, first: u16) -> Token
     requires { ⌜ (first + 1) * 10 ^ most ≤ 10000 ⌝ }
-    ensures { λ r. ⌜ fieldOf (now (bytes .entry)) r ≡ digitsAt stop most first (drop at (now (bytes .entry))) ⌝ }
-    ensures { λ r. ⌜ Ahead (now (bytes .entry)) at r ⌝ }
+    ensures field { λ r. ⌜ fieldOf (now (bytes .entry)) r ≡ digitsAt stop most first (drop at (now (bytes .entry))) ⌝ }
+    ensures ahead { λ r. ⌜ Ahead (now (bytes .entry)) at r ⌝ }
 {
     let mut next = at;
     let mut more = most;

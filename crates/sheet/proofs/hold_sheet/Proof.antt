@@ -14,12 +14,12 @@ use Rattle.sheet.specs.declared.lines.Step.{Step}
 use Rattle.sheet.specs.declared.lines.Step.the-variants.{KeepRow, KeepRoot, Done, Refuse}
 use Rattle.sheet.specs.Reading.{readSheet}
 use Rattle.sheet.proofs.StepLaws.{sheet-too-long, sheet-opened}
-use Rattle.sheet.proofs.Keeping.{whole, Kept, After, nothing-kept, kept-on}
+use Rattle.sheet.proofs.Keeping.{whole, KeptSoFar, After, nothing-kept, kept-on}
 use Rattle.sheet.proofs.hold_sheet.Statement.{statement}
 use Rattle.sheet.proofs.hold_sheet.Tie as tie
 
 abbrev Inv-loop : tie.InvT-loop
-Inv-loop bytes room rows₀ roots₀ at₀ n₀ m₀ rows roots at n m = Kept bytes (room .rows) (room .roots) rows roots at n m
+Inv-loop bytes room rows₀ roots₀ at₀ n₀ m₀ rows roots at n m = KeptSoFar bytes (room .rows) (room .roots) rows roots at n m
 
 abbrev μ-loop : tie.MeasureT-loop
 μ-loop bytes room rows₀ roots₀ at₀ n₀ m₀ rows roots at n m = (room .rows - n) + (room .roots - m)
