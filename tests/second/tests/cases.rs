@@ -387,7 +387,7 @@ fn the_sheet_s_ceilings() {
 /// Every entry on the deepest chains runs with so much stack; `cargo run --bin stack` tells how much each takes.
 #[cfg(panel)]
 #[test]
-fn the_deepest_chains_run_with_half_a_megabyte_of_stack() {
+fn the_deepest_chains_run_with_400_kilobytes_of_stack() {
     use second::panel::Library;
     use second::samples::{spawned, waited, Statement};
     use second::{compare, dice::Dice, sheet, work_out, LABELS, LISTING_BYTES};
@@ -403,7 +403,7 @@ fn the_deepest_chains_run_with_half_a_megabyte_of_stack() {
             compare::analysing(&Library, dice, &deep, Some(&answer), LABELS)?;
             compare::listing(&Library, dice, &deep, Some(&answer), LABELS, LISTING_BYTES)
         };
-        let thread = std::thread::Builder::new().stack_size(512 << 10).spawn(ask);
+        let thread = std::thread::Builder::new().stack_size(400 << 10).spawn(ask);
         assert_eq!(thread.unwrap().join().unwrap(), Ok(()));
     }
 }
