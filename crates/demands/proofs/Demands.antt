@@ -72,7 +72,8 @@ module _ (z : Size) (t : Table) (ok : admitted z t) where
   abbrev pub reportedSets : ℕ → Summary
   reportedSets f = meaning (z .words) (after (z .words) (programOf t) (rounds (z .words) (programOf t)) f)
 
-  labels-below : (f : ℕ) → LabelsBelow (labelCeiling (z .words)) (body (programOf t) f)
+  -- every label of a body is below the ceiling
+  pub labels-below : (f : ℕ) → LabelsBelow (labelCeiling (z .words)) (body (programOf t) f)
   labels-below f = go (decLt f (procs t))
     where
       go : Dec (f < procs t) → LabelsBelow (labelCeiling (z .words)) (body (programOf t) f)

@@ -1,4 +1,5 @@
 pub mod LeastSolution
 pub mod Demands
+pub mod RuleRounds
 pub mod Reported
 pub mod StarredRecipes
