@@ -4,26 +4,29 @@
  * read_sheet and list_pairs, and A, R or L for the same on records), the
  * slices' lengths as 32-bit numbers in the order of the parameters, then the
  * slices' contents in that order. The answer is the reply as a 64-bit number
- * and then the contents of each slice that the entry may write. All numbers
- * are little-endian, and a record is the 6 bytes that it has in memory. Ends
- * at the end of its input.
+ * and then the contents of every slice, those that the entry may only read as
+ * well. All numbers are little-endian, and a record is the 6 bytes that it has
+ * in memory. A fence stands before and after every slice; ends with status 1
+ * if an entry wrote into one, and with 0 at the end of its input.
  */
 #include <stdint.h>
 #include <stdio.h>
 #include <stdlib.h>
 
 #include "panel.h"
+#include "record.h"
 
-_Static_assert(sizeof(bushkalote_row) == 6, "a record has 6 bytes");
+enum { SLICES = 6, FENCE = 64 };
 
-enum { SLICES = 6 };
-
+/* The slice stands in its storage behind the first fence, and is aligned as that is. */
 struct slice {
+    unsigned char *storage;
     void *at;
-    size_t len, room, width;
+    size_t len, bytes, room;
 };
 
 static struct slice slices[SLICES];
+static size_t lent;
 
 static void fail(const char *what) {
     fprintf(stderr, "serve: %s\n", what);
@@ -40,32 +43,46 @@ static void give(const void *at, size_t bytes) {
         fail("the answer can't be written");
 }
 
+static unsigned char post(size_t i) {
+    return (unsigned char)(0xa5 + 37 * i);
+}
+
+/* Where the i-th byte of both fences stands, the first one's before the second one's. */
+static unsigned char *post_of(const struct slice *s, size_t i) {
+    return s->storage + i + (i < FENCE ? 0 : s->bytes);
+}
+
 /* Takes as many slices as there are widths, in bytes an element. */
 static void take_slices(const char *widths) {
-    size_t n = 0;
-    for (; widths[n] != 0; n++) {
+    for (lent = 0; widths[lent] != 0; lent++) {
         uint32_t len;
         take(&len, sizeof len);
-        slices[n].len = len;
-        slices[n].width = (size_t)(widths[n] - '0');
+        slices[lent].len = len;
+        slices[lent].bytes = len * (size_t)(widths[lent] - '0');
     }
-    for (size_t i = 0; i < n; i++) {
-        size_t bytes = slices[i].len * slices[i].width;
-        if (slices[i].at == NULL || slices[i].room < bytes) {
-            free(slices[i].at);
-            slices[i].room = bytes + 8;
-            slices[i].at = malloc(slices[i].room);
-            if (slices[i].at == NULL)
+    for (struct slice *s = slices; s < slices + lent; s++) {
+        if (s->room < s->bytes + 2 * FENCE) {
+            free(s->storage);
+            s->room = s->bytes + 2 * FENCE;
+            s->storage = malloc(s->room);
+            if (s->storage == NULL)
                 fail("no memory");
+            s->at = s->storage + FENCE;
         }
-        take(slices[i].at, bytes);
+        for (size_t i = 0; i < 2 * FENCE; i++)
+            *post_of(s, i) = post(i);
+        take(s->at, s->bytes);
     }
 }
 
-static void answer(uint64_t reply, size_t first, size_t last) {
+static void answer(uint64_t reply) {
     give(&reply, sizeof reply);
-    for (size_t i = first; i <= last; i++)
-        give(slices[i].at, slices[i].len * slices[i].width);
+    for (const struct slice *s = slices; s < slices + lent; s++) {
+        for (size_t i = 0; i < 2 * FENCE; i++)
+            if (*post_of(s, i) != post(i))
+                fail("an entry wrote beyond a slice");
+        give(s->at, s->bytes);
+    }
     if (fflush(stdout) != 0)
         fail("the answer can't be written");
 }
@@ -77,34 +94,30 @@ int main(void) {
         case 'a':
             take_slices("12228");
             answer(bushkalote_analyse(s[0].at, s[0].len, s[1].at, s[1].len, s[2].at, s[2].len, s[3].at,
-                                      s[3].len, s[4].at, s[4].len),
-                   4, 4);
+                                      s[3].len, s[4].at, s[4].len));
             break;
         case 'r':
             take_slices("11222");
             answer(bushkalote_read_sheet(s[0].at, s[0].len, s[1].at, s[1].len, s[2].at, s[2].len, s[3].at,
-                                         s[3].len, s[4].at, s[4].len),
-                   1, 4);
+                                         s[3].len, s[4].at, s[4].len));
             break;
         case 'l':
             take_slices("122281");
             answer(bushkalote_list_pairs(s[0].at, s[0].len, s[1].at, s[1].len, s[2].at, s[2].len, s[3].at,
-                                         s[3].len, s[4].at, s[4].len, s[5].at, s[5].len),
-                   4, 5);
+                                         s[3].len, s[4].at, s[4].len, s[5].at, s[5].len));
             break;
         case 'A':
             take_slices("628");
-            answer(bushkalote_analyse_rows(s[0].at, s[0].len, s[1].at, s[1].len, s[2].at, s[2].len), 2, 2);
+            answer(bushkalote_analyse_rows(s[0].at, s[0].len, s[1].at, s[1].len, s[2].at, s[2].len));
             break;
         case 'R':
             take_slices("162");
-            answer(bushkalote_read_rows(s[0].at, s[0].len, s[1].at, s[1].len, s[2].at, s[2].len), 1, 2);
+            answer(bushkalote_read_rows(s[0].at, s[0].len, s[1].at, s[1].len, s[2].at, s[2].len));
             break;
         case 'L':
             take_slices("6281");
             answer(bushkalote_list_rows(s[0].at, s[0].len, s[1].at, s[1].len, s[2].at, s[2].len, s[3].at,
-                                        s[3].len),
-                   2, 3);
+                                        s[3].len));
             break;
         default:
             fail("no such entry");

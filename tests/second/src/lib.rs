@@ -9,6 +9,7 @@
 pub mod calls;
 pub mod compare;
 pub mod dice;
+pub mod fenced;
 pub mod gen;
 pub mod listing;
 pub mod panel;

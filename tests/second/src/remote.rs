@@ -1,5 +1,6 @@
 //! The static library in another process: the client of tests/panel/serve.c,
-//! for a machine that can only run the library emulated.
+//! for a machine that can only run the library emulated. Every slice goes both
+//! ways, and what may only be read must come back as it was.
 
 use crate::panel::Panel;
 use crate::table::Row;
@@ -60,35 +61,65 @@ impl Element for Row {
     }
 }
 
-fn put<T: Element>(to: &mut Vec<u8>, slice: &[T]) {
-    slice.iter().for_each(|e| e.put(to));
+/// A slice that is lent, and what becomes of it when it comes back.
+trait Lent {
+    fn len(&self) -> usize;
+    fn sent(&self) -> Vec<u8>;
+    fn take_back(&mut self, bytes: &[u8]);
 }
 
-fn lengths(entry: u8, all: &[usize]) -> Vec<u8> {
-    let mut request = vec![entry];
-    all.iter().for_each(|&n| (n as u32).put(&mut request));
-    request
+fn bytes_of<T: Element>(slice: &[T]) -> Vec<u8> {
+    let mut bytes = Vec::with_capacity(std::mem::size_of_val(slice));
+    slice.iter().for_each(|e| e.put(&mut bytes));
+    bytes
+}
+
+/// What is lent to be read must come back as it was sent.
+impl<T: Element> Lent for &[T] {
+    fn len(&self) -> usize {
+        <[T]>::len(self)
+    }
+    fn sent(&self) -> Vec<u8> {
+        bytes_of(self)
+    }
+    fn take_back(&mut self, bytes: &[u8]) {
+        assert!(
+            bytes == self.sent(),
+            "a slice was written that is lent to be read"
+        );
+    }
+}
+
+impl<T: Element> Lent for &mut [T] {
+    fn len(&self) -> usize {
+        <[T]>::len(self)
+    }
+    fn sent(&self) -> Vec<u8> {
+        bytes_of(self)
+    }
+    fn take_back(&mut self, bytes: &[u8]) {
+        for (e, from) in self
+            .iter_mut()
+            .zip(bytes.chunks_exact(std::mem::size_of::<T>()))
+        {
+            *e = T::get(from);
+        }
+    }
 }
 
 impl Line {
-    fn ask(&mut self, request: &[u8]) -> u64 {
+    fn send(&mut self, request: &[u8]) {
         let to = self.to.as_mut().unwrap();
         to.write_all(request).expect("the server takes the request");
         to.flush().expect("the server takes the request");
-        let mut reply = [0];
-        self.fill(&mut reply);
-        reply[0]
     }
 
-    fn fill<T: Element>(&mut self, slice: &mut [T]) {
-        let width = std::mem::size_of::<T>();
-        let mut bytes = vec![0; std::mem::size_of_val(slice)];
+    fn receive(&mut self, length: usize) -> Vec<u8> {
+        let mut bytes = vec![0; length];
         self.from
             .read_exact(&mut bytes)
             .expect("the server answers");
-        for (e, from) in slice.iter_mut().zip(bytes.chunks_exact(width)) {
-            *e = T::get(from);
-        }
+        bytes
     }
 }
 
@@ -103,6 +134,22 @@ impl Remote {
         let from = BufReader::new(child.stdout.take().unwrap());
         Remote(RefCell::new(Line { child, to, from }))
     }
+
+    /// Sends all slices, and takes the reply and all slices back.
+    fn ask(&self, entry: u8, lent: &mut [&mut dyn Lent]) -> u64 {
+        let contents: Vec<Vec<u8>> = lent.iter().map(|slice| slice.sent()).collect();
+        let mut request = vec![entry];
+        lent.iter()
+            .for_each(|slice| (slice.len() as u32).put(&mut request));
+        request.extend(contents.concat());
+        let mut line = self.0.borrow_mut();
+        line.send(&request);
+        let reply = u64::get(&line.receive(8));
+        for (slice, sent) in lent.iter_mut().zip(&contents) {
+            slice.take_back(&line.receive(sent.len()));
+        }
+        reply
+    }
 }
 
 impl Drop for Line {
@@ -110,6 +157,13 @@ impl Drop for Line {
         self.to = None;
         let _ = self.child.wait();
     }
+}
+
+/// An entry over the line: what it reads, then what it writes.
+macro_rules! asked {
+    ($remote:expr, $entry:expr, [$($read:ident),*], [$($written:ident),*]) => {
+        $remote.ask($entry, &mut [$(&mut &*$read,)* $(&mut &mut *$written),*])
+    };
 }
 
 impl Panel for Remote {
@@ -121,19 +175,7 @@ impl Panel for Remote {
         roots: &[u16],
         matrix: &mut [u64],
     ) -> u64 {
-        let mut request = lengths(
-            b'a',
-            &[kinds.len(), xs.len(), ys.len(), roots.len(), matrix.len()],
-        );
-        put(&mut request, kinds);
-        put(&mut request, xs);
-        put(&mut request, ys);
-        put(&mut request, roots);
-        put(&mut request, matrix);
-        let mut line = self.0.borrow_mut();
-        let reply = line.ask(&request);
-        line.fill(matrix);
-        reply
+        asked!(self, b'a', [kinds, xs, ys, roots], [matrix])
     }
 
     fn read_sheet(
@@ -144,22 +186,7 @@ impl Panel for Remote {
         ys: &mut [u16],
         roots: &mut [u16],
     ) -> u64 {
-        let mut request = lengths(
-            b'r',
-            &[bytes.len(), kinds.len(), xs.len(), ys.len(), roots.len()],
-        );
-        put(&mut request, bytes);
-        put(&mut request, kinds);
-        put(&mut request, xs);
-        put(&mut request, ys);
-        put(&mut request, roots);
-        let mut line = self.0.borrow_mut();
-        let reply = line.ask(&request);
-        line.fill(kinds);
-        line.fill(xs);
-        line.fill(ys);
-        line.fill(roots);
-        reply
+        asked!(self, b'r', [bytes], [kinds, xs, ys, roots])
     }
 
     fn list_pairs(
@@ -171,63 +198,18 @@ impl Panel for Remote {
         matrix: &mut [u64],
         bytes: &mut [u8],
     ) -> u64 {
-        let mut request = lengths(
-            b'l',
-            &[
-                kinds.len(),
-                xs.len(),
-                ys.len(),
-                roots.len(),
-                matrix.len(),
-                bytes.len(),
-            ],
-        );
-        put(&mut request, kinds);
-        put(&mut request, xs);
-        put(&mut request, ys);
-        put(&mut request, roots);
-        put(&mut request, matrix);
-        put(&mut request, bytes);
-        let mut line = self.0.borrow_mut();
-        let reply = line.ask(&request);
-        line.fill(matrix);
-        line.fill(bytes);
-        reply
+        asked!(self, b'l', [kinds, xs, ys, roots], [matrix, bytes])
     }
 
     fn analyse_rows(&self, rows: &[Row], roots: &[u16], matrix: &mut [u64]) -> u64 {
-        let mut request = lengths(b'A', &[rows.len(), roots.len(), matrix.len()]);
-        put(&mut request, rows);
-        put(&mut request, roots);
-        put(&mut request, matrix);
-        let mut line = self.0.borrow_mut();
-        let reply = line.ask(&request);
-        line.fill(matrix);
-        reply
+        asked!(self, b'A', [rows, roots], [matrix])
     }
 
     fn read_rows(&self, bytes: &[u8], rows: &mut [Row], roots: &mut [u16]) -> u64 {
-        let mut request = lengths(b'R', &[bytes.len(), rows.len(), roots.len()]);
-        put(&mut request, bytes);
-        put(&mut request, rows);
-        put(&mut request, roots);
-        let mut line = self.0.borrow_mut();
-        let reply = line.ask(&request);
-        line.fill(rows);
-        line.fill(roots);
-        reply
+        asked!(self, b'R', [bytes], [rows, roots])
     }
 
     fn list_rows(&self, rows: &[Row], roots: &[u16], matrix: &mut [u64], bytes: &mut [u8]) -> u64 {
-        let mut request = lengths(b'L', &[rows.len(), roots.len(), matrix.len(), bytes.len()]);
-        put(&mut request, rows);
-        put(&mut request, roots);
-        put(&mut request, matrix);
-        put(&mut request, bytes);
-        let mut line = self.0.borrow_mut();
-        let reply = line.ask(&request);
-        line.fill(matrix);
-        line.fill(bytes);
-        reply
+        asked!(self, b'L', [rows, roots], [matrix, bytes])
     }
 }

@@ -7,6 +7,7 @@ mod common;
 use common::note_if_no_library;
 use common::straight::Straight;
 use second::dice::Dice;
+use second::fenced::Fenced;
 use second::panel::Panel;
 use second::samples::*;
 use second::table::{Row, Table};
@@ -450,4 +451,119 @@ fn the_comparisons_find_faults() {
         assert!(found, "fault {fault} was not found");
     }
     assert!((0..500).all(|i| compare::one(&Faulty(19), compare::seed_of(13, i)).is_ok()));
+}
+
+/// The Rust version, which then changes one byte by its address, as only foreign code can: beside what is lent, or in what is
+/// lent to be read.
+struct Scribbling(usize);
+
+impl Scribbling {
+    /// Where the faults of an entry lie, from its first fault's number on: each slice is its first byte and its bytes' number,
+    /// and a fault lies before it, behind it, and in it where it may only be read.
+    fn scribble(&self, mut fault: usize, slices: &[(usize, usize, bool)]) {
+        for &(at, bytes, read) in slices {
+            let all = [at - 1, at + bytes, at];
+            for place in &all[..if read { 3 } else { 2 }] {
+                if fault == self.0 {
+                    unsafe { *(std::hint::black_box(*place) as *mut u8) ^= 1 }
+                }
+                fault += 1;
+            }
+        }
+    }
+}
+
+fn read<T>(slice: &[T]) -> (usize, usize, bool) {
+    (slice.as_ptr() as usize, std::mem::size_of_val(slice), true)
+}
+
+fn written<T>(slice: &mut [T]) -> (usize, usize, bool) {
+    (
+        slice.as_mut_ptr() as usize,
+        std::mem::size_of_val(slice),
+        false,
+    )
+}
+
+impl Panel for Scribbling {
+    fn analyse(
+        &self,
+        kinds: &[u8],
+        xs: &[u16],
+        ys: &[u16],
+        roots: &[u16],
+        matrix: &mut [u64],
+    ) -> u64 {
+        let reply = Straight.analyse(kinds, xs, ys, roots, matrix);
+        let slices = [
+            read(kinds),
+            read(xs),
+            read(ys),
+            read(roots),
+            written(matrix),
+        ];
+        self.scribble(0, &slices);
+        reply
+    }
+
+    fn read_sheet(
+        &self,
+        bytes: &[u8],
+        kinds: &mut [u8],
+        xs: &mut [u16],
+        ys: &mut [u16],
+        roots: &mut [u16],
+    ) -> u64 {
+        let reply = Straight.read_sheet(bytes, kinds, xs, ys, roots);
+        let slices = [
+            read(bytes),
+            written(kinds),
+            written(xs),
+            written(ys),
+            written(roots),
+        ];
+        self.scribble(14, &slices);
+        reply
+    }
+
+    fn list_pairs(
+        &self,
+        kinds: &[u8],
+        xs: &[u16],
+        ys: &[u16],
+        roots: &[u16],
+        matrix: &mut [u64],
+        bytes: &mut [u8],
+    ) -> u64 {
+        Straight.list_pairs(kinds, xs, ys, roots, matrix, bytes)
+    }
+
+    fn analyse_rows(&self, rows: &[Row], roots: &[u16], matrix: &mut [u64]) -> u64 {
+        Straight.analyse_rows(rows, roots, matrix)
+    }
+
+    fn read_rows(&self, bytes: &[u8], rows: &mut [Row], roots: &mut [u16]) -> u64 {
+        let reply = Straight.read_rows(bytes, rows, roots);
+        self.scribble(25, &[read(bytes), written(rows), written(roots)]);
+        reply
+    }
+
+    fn list_rows(&self, rows: &[Row], roots: &[u16], matrix: &mut [u64], bytes: &mut [u8]) -> u64 {
+        let reply = Straight.list_rows(rows, roots, matrix, bytes);
+        self.scribble(
+            32,
+            &[read(rows), read(roots), written(matrix), written(bytes)],
+        );
+        reply
+    }
+}
+
+#[test]
+fn the_fences_find_what_is_written_beside_what_is_lent() {
+    for fault in 0..=42 {
+        let panel = Fenced(Box::new(Scribbling(fault)));
+        let work = || compare::sheet(&panel, &mut Dice::new(8), &sheet::spell(&whole_case()));
+        let outcome = std::panic::catch_unwind(std::panic::AssertUnwindSafe(work));
+        assert_eq!(outcome.is_err(), fault < 42, "fault {fault}");
+    }
 }

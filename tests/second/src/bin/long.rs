@@ -31,6 +31,7 @@ fn arguments() -> Option<Wanted> {
 
 fn run(wanted: &Wanted) -> ExitCode {
     use second::compare;
+    use second::fenced::Fenced;
     use second::panel::library;
     use std::io::Write;
     use std::time::{Duration, Instant};
@@ -39,11 +40,12 @@ fn run(wanted: &Wanted) -> ExitCode {
         eprintln!("long: not run: neither BUSHKALOTE_PANEL (the folder of libpanel.a, at build time) nor BUSHKALOTE_SERVER is set");
         return ExitCode::from(2);
     };
+    let library = Fenced(library);
     let start = Instant::now();
     let mut told = start;
     for i in 0..wanted.n {
         let seed = compare::seed_of(wanted.seed, i);
-        if let Err(fault) = compare::one(library.as_ref(), seed) {
+        if let Err(fault) = compare::one(&library, seed) {
             eprintln!("long: difference in case {i} (seed {seed}): {}", fault.what);
             let _ = std::io::stdout().lock().write_all(&fault.input);
             return ExitCode::from(1);

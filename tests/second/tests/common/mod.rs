@@ -5,6 +5,7 @@
 pub mod straight;
 
 use second::dice::Dice;
+use second::fenced::Fenced;
 use second::panel::Panel;
 use second::table::{judge, refusal, Table};
 use second::{compare, printed, sheet, work_out, Answer};
@@ -26,8 +27,10 @@ pub fn versions() -> Vec<(&'static str, Box<dyn Panel>)> {
     all
 }
 
+/// The library, with fences around everything that is lent.
 pub fn library() -> Option<(&'static str, Box<dyn Panel>)> {
-    second::panel::library().map(|library| ("library", library))
+    let library = Fenced(second::panel::library()?);
+    Some(("library", Box::new(library)))
 }
 
 thread_local! {
@@ -155,12 +158,13 @@ pub fn report_program(test: &str) -> Option<PathBuf> {
     program
 }
 
-/// What a program prints for a sheet on its standard input.
+/// What a program prints for a sheet on its standard input; it ends with status 0 and has nothing else to say.
 pub fn run(program: &std::path::Path, sheet: &[u8]) -> Vec<u8> {
     use std::process::Stdio;
     let mut child = second::remote::x86(program)
         .stdin(Stdio::piped())
         .stdout(Stdio::piped())
+        .stderr(Stdio::piped())
         .spawn()
         .unwrap_or_else(|e| panic!("cannot start {}: {e}", program.display()));
     let mut input = child.stdin.take().unwrap();
@@ -173,10 +177,15 @@ pub fn run(program: &std::path::Path, sheet: &[u8]) -> Vec<u8> {
         );
     }
     drop(input);
-    child
-        .wait_with_output()
-        .expect("the program's output")
-        .stdout
+    let output = child.wait_with_output().expect("the program's output");
+    let told = String::from_utf8_lossy(&output.stderr);
+    assert!(
+        output.status.code() == Some(0) && told.is_empty(),
+        "the program ends with {} and tells '{told}' for {}",
+        output.status,
+        shown(sheet)
+    );
+    output.stdout
 }
 
 /// The bytes of a sheet for a message.

@@ -1,0 +1,155 @@
+/*
+ * One reply of each kind as the number that it is, the macros of panel.h aside,
+ * on recipes of which nothing can change places unseen: rows and procedures,
+ * xs and ys, a record's x and y, a refusal's number and its place. And each
+ * ceiling of panel.h, and one more. Ends with status 0 if all is as it should
+ * be. Built and run by tests/panel/run.
+ */
+#include <stdio.h>
+#include <string.h>
+
+#include "panel.h"
+#include "record.h"
+
+static int differences = 0;
+
+static void expect(const char *what, uint64_t reply, uint64_t due)
+{
+    if (reply == due)
+        return;
+    fprintf(stderr, "%s: %#llx, expected %#llx\n", what, (unsigned long long)reply, (unsigned long long)due);
+    differences++;
+}
+
+static void expect_bytes(const char *what, const void *got, const void *due, size_t bytes)
+{
+    if (memcmp(got, due, bytes) == 0)
+        return;
+    fprintf(stderr, "%s: not what is due\n", what);
+    differences++;
+}
+
+/* Five rows and two procedures: async { 0 }; call 1, and the called one is 1. */
+static const char sheet[] =
+    "R\tstep\t0\t0\n"
+    "R\tasync\t0\t0\n"
+    "R\tcall\t1\t0\n"
+    "R\tseq\t1\t2\n"
+    "R\tstep\t1\t0\n"
+    "P\t3\n"
+    "P\t4\n";
+static const char listing[] = "pairs\t1\trounds\t2\texact\n0\t1\n";
+
+/* One label 0 beside the other: async { 0 }; 0. With xs for ys it is 0; async { 0 }, admitted too, and has no pair. */
+static const uint8_t kinds[4] = {1, 4, 1, 2};
+static const uint16_t xs[4] = {0, 0, 0, 1};
+static const uint16_t ys[4] = {0, 0, 0, 2};
+static const bushkalote_row rows[4] = {{1, 0, 0}, {4, 0, 0}, {1, 0, 0}, {2, 1, 2}};
+static const uint16_t root[1] = {3};
+static const char one_pair[] = "pairs\t1\trounds\t1\texact\n0\t0\n";
+
+static uint64_t matrix[BUSHKALOTE_LABELS];
+static uint8_t bytes[BUSHKALOTE_LISTING_BYTES];
+
+static void read_and_listed(void)
+{
+    static const uint8_t due_kinds[5] = {1, 4, 6, 2, 1};
+    static const uint16_t due_xs[5] = {0, 0, 1, 1, 1}, due_ys[5] = {0, 0, 0, 2, 0}, due_roots[2] = {3, 4};
+    const uint8_t *const text = (const uint8_t *)sheet;
+    const size_t length = sizeof sheet - 1;
+    uint8_t k[5];
+    uint16_t x[5], y[5], p[2];
+    bushkalote_row r[5];
+
+    /* Two procedures times 2^16 and five rows. */
+    expect("a reading", bushkalote_read_sheet(text, length, k, 5, x, 5, y, 5, p, 2), 0x20005);
+    expect_bytes("the kinds", k, due_kinds, sizeof k);
+    expect_bytes("the xs", x, due_xs, sizeof x);
+    expect_bytes("the ys", y, due_ys, sizeof y);
+    expect_bytes("the roots", p, due_roots, sizeof p);
+    /* Two rounds; 27 bytes. */
+    expect("an analysis", bushkalote_analyse(k, 5, x, 5, y, 5, p, 2, matrix, 64), 2);
+    expect("a listing", bushkalote_list_pairs(k, 5, x, 5, y, 5, p, 2, matrix, 64, bytes, sizeof bytes), 27);
+    expect_bytes("the text", bytes, listing, 27);
+
+    memset(p, 0x77, sizeof p);
+    expect("a reading into records", bushkalote_read_rows(text, length, r, 5, p, 2), 0x20005);
+    for (size_t i = 0; i < 5; i++)
+        if (r[i].kind != due_kinds[i] || r[i].x != due_xs[i] || r[i].y != due_ys[i])
+            expect("a record that was read", i, 5);
+    expect_bytes("the roots beside records", p, due_roots, sizeof p);
+    memset(bytes, '#', sizeof bytes);
+    expect("an analysis of records", bushkalote_analyse_rows(r, 5, p, 2, matrix, 64), 2);
+    expect("a listing of records", bushkalote_list_rows(r, 5, p, 2, matrix, 64, bytes, sizeof bytes), 27);
+    expect_bytes("the text of records", bytes, listing, 27);
+
+    /* The number times 2^32 and the place: no room for line 4, a row, or for line 6, a procedure; line 3 cut short. */
+    expect("no room for a row", bushkalote_read_sheet(text, length, k, 4, x, 5, y, 5, p, 2), 0xd00000004);
+    expect("no room for a procedure", bushkalote_read_sheet(text, length, k, 5, x, 5, y, 5, p, 1), 0xd00000006);
+    expect("a line cut short", bushkalote_read_rows(text, 40, r, 5, p, 2), 0xc00000003);
+    /* Room for the listing but one byte. */
+    expect("one byte too few", bushkalote_list_rows(r, 5, p, 2, matrix, 64, bytes, 26), 0xe00000000);
+    /* Row 2 calls procedure 1, which is not there; root 1 is no row, and then a row that has a user; row 4 has a y. */
+    expect("no such procedure", bushkalote_analyse(k, 5, x, 5, y, 5, p, 1, matrix, 64), 0x400000002);
+    p[1] = 5;
+    expect("a root past the last row", bushkalote_analyse_rows(r, 5, p, 2, matrix, 64), 0x500000001);
+    p[1] = 3;
+    expect("a root used twice", bushkalote_analyse_rows(r, 5, p, 2, matrix, 64), 0x600000003);
+    y[4] = 2;
+    expect("a step's y", bushkalote_analyse(k, 5, x, 5, y, 5, p, 2, matrix, 64), 0x400000004);
+}
+
+static void told_apart(void)
+{
+    const size_t length = sizeof one_pair - 1;
+
+    expect("xs, then ys", bushkalote_analyse(kinds, 4, xs, 4, ys, 4, root, 1, matrix, 64), 1);
+    expect("their pair", matrix[0], 1);
+    expect("ys, then xs", bushkalote_analyse(kinds, 4, ys, 4, xs, 4, root, 1, matrix, 64), 1);
+    expect("no pair of these", matrix[0], 0);
+    expect("records", bushkalote_analyse_rows(rows, 4, root, 1, matrix, 64), 1);
+    expect("the records' pair", matrix[0], 1);
+    expect("list xs, then ys",
+           bushkalote_list_pairs(kinds, 4, xs, 4, ys, 4, root, 1, matrix, 64, bytes, sizeof bytes), length);
+    expect_bytes("their text", bytes, one_pair, length);
+    expect("list ys, then xs",
+           bushkalote_list_pairs(kinds, 4, ys, 4, xs, 4, root, 1, matrix, 64, bytes, sizeof bytes), length - 4);
+    expect("list records", bushkalote_list_rows(rows, 4, root, 1, matrix, 64, bytes, sizeof bytes), length);
+    expect_bytes("the records' text", bytes, one_pair, length);
+}
+
+/* As many procedures as there are rows, each of them skip; a chain of loops as long as it may be; as many bytes. */
+static void ceilings(void)
+{
+    static bushkalote_row skips[65], loops[1025];
+    static uint16_t roots[65], last[1];
+    static uint8_t lines[65537];
+
+    for (uint16_t i = 0; i < 65; i++)
+        roots[i] = i;
+    expect("64 procedures", bushkalote_analyse_rows(skips, 64, roots, 64, matrix, 64), 0);
+    expect("65 procedures", bushkalote_analyse_rows(skips, 65, roots, 65, matrix, 64), 0x100000000);
+    for (uint16_t i = 1; i < 1025; i++) {
+        loops[i].kind = 3;
+        loops[i].x = (uint16_t)(i - 1);
+    }
+    last[0] = 1023;
+    expect("1,024 rows", bushkalote_analyse_rows(loops, 1024, last, 1, matrix, 64), 0);
+    last[0] = 1024;
+    expect("1,025 rows", bushkalote_analyse_rows(loops, 1025, last, 1, matrix, 64), 0x100000000);
+    expect("64 words", bushkalote_analyse_rows(rows, 4, root, 1, matrix, 64), 1);
+    expect("63 words", bushkalote_analyse_rows(rows, 4, root, 1, matrix, 63), 0x200000000);
+    memset(lines, '\n', sizeof lines);
+    expect("65,536 bytes", bushkalote_read_rows(lines, 65536, loops, 1024, roots, 64), 0xc00000000);
+    expect("65,537 bytes", bushkalote_read_rows(lines, 65537, loops, 1024, roots, 64), 0xb00000000);
+}
+
+int main(void)
+{
+    read_and_listed();
+    told_apart();
+    ceilings();
+    if (differences != 0)
+        fprintf(stderr, "%d differences\n", differences);
+    return differences != 0;
+}
