@@ -2,7 +2,7 @@
  * One reply of each kind as the number that it is, the macros of panel.h aside,
  * on recipes of which nothing can change places unseen: rows and procedures,
  * xs and ys, a record's x and y, a refusal's number and its place. And each
- * ceiling of panel.h, and one more. Ends with status 0 if all is as it should
+ * kind by its word, and each ceiling of panel.h and one more. Ends with status 0 if all is as it should
  * be. Built and run by tests/panel/run.
  */
 #include <stdio.h>
@@ -118,6 +118,20 @@ static void told_apart(void)
     expect_bytes("the records' text", bytes, one_pair, length);
 }
 
+/* The seven words, in the order of their kinds; no procedure. */
+static void words(void)
+{
+    static const char lines[] =
+        "R\tskip\t0\t0\nR\tstep\t0\t0\nR\tseq\t0\t0\nR\tloop\t0\t0\nR\tasync\t0\t0\nR\tfinish\t0\t0\nR\tcall\t0\t0\n";
+    static const uint8_t due[7] = {0, 1, 2, 3, 4, 5, 6};
+    uint8_t k[7];
+    uint16_t x[7], y[7], p[1];
+
+    expect("seven words",
+           bushkalote_read_sheet((const uint8_t *)lines, sizeof lines - 1, k, 7, x, 7, y, 7, p, 1), 7);
+    expect_bytes("their kinds", k, due, sizeof k);
+}
+
 /* As many procedures as there are rows, each of them skip; a chain of loops as long as it may be; as many bytes. */
 static void ceilings(void)
 {
@@ -148,6 +162,7 @@ int main(void)
 {
     read_and_listed();
     told_apart();
+    words();
     ceilings();
     if (differences != 0)
         fprintf(stderr, "%d differences\n", differences);
