@@ -4,6 +4,7 @@ pub mod LineForms
 pub mod StepLaws
 pub mod Keeping
 pub mod Outcomes
+pub mod Passing
 pub mod SheetForms
 pub mod Unique
 pub mod Stored

@@ -99,7 +99,18 @@ module _ (R P : ℕ) (bytes : List ℕ) where
 
   module _ {rows : List Row} {roots s : List ℕ} (r : ReadSoFar R P bytes rows roots s) where
     offence : {why : Refusal} → Offends R P rows roots s (length rows + length roots) why → Offence R P bytes why
-    offence o = record { rows = rows; roots = roots; rest = s; spelled = r .spelled; offends = o }
+    offence o =
+        record {
+          rows = rows;
+          roots = roots;
+          rest = s;
+          spelled = r .spelled;
+          rowsShort = r .rowsShort;
+          rootsShort = r .rootsShort;
+          rowsFit = r .rowsFit;
+          rootsFit = r .rootsFit;
+          offends = o;
+        }
 
     -- By what is done with the line at the front; `onward` is known of the lines behind it.
     by-step :

@@ -1,25 +1,24 @@
--- The reader accepts exactly the sheets of the form, and refuses any other where it first offends: the outcome of its lines is the outcome of the sheet.
+-- The reader accepts exactly the sheets of the form and refuses exactly where a line first offends: what its lines come to is what the sheet comes to,
+-- and what is spelled before the end, or before a line that offends, is passed.
 -- Assumes nothing.
 use mathlib.Core.Path.{_≡_, refl, sym, ap, _∙_, subst}
 use mathlib.Core.Logic.{_↔_}
-use mathlib.Core.List.{List, [], _∷_, _++_, append-assoc, append-nil}
-use Prim.Native.Nat.{ℕ, _+_, _-_, _≤_, min}
+use mathlib.Core.List.{List, [], _++_, append-nil}
+use Prim.Native.Nat.{ℕ, _≤_, min}
 use native.Mathlib.Decide.{decLe}
 use native.Mathlib.Omega.{arith}
-use lib.ListN.{length, length-append}
+use lib.ListN.{length}
 use Rattle.numbers.specs.Sizes.{Size, rowCeiling, sheetCeiling}
 use Rattle.numbers.specs.declared.Refusal.{Refusal}
 use Rattle.numbers.specs.declared.Refusal.the-variants.{LongSheet}
 use Rattle.recipe.specs.declared.Row.{Row}
 use Rattle.table.specs.Reading.{Reading, table, refused, rowsOf, rootsOf}
-use Rattle.sheet.specs.Form.{spelledRow, spelledRoot, spell, Short, ShortRow, Every, Holdable}
-use Rattle.sheet.specs.Lines.{lineAt, rowLine, rootLine}
-use Rattle.sheet.specs.Reading.{Step, keepRow, keepRoot, stepOf, afterStep, readLines, readSheet}
-use Rattle.sheet.specs.Offences.{Offence}
-use Rattle.sheet.proofs.LineForms.{row-line-reads, root-line-reads, row-shorter, root-shorter}
-use Rattle.sheet.proofs.LineLaws.{no-bytes}
-use Rattle.sheet.proofs.Outcomes.{spell-row, spell-root, spell-nothing, ReadSoFar, Outcome, spelled-whole, offended, outcome}
-use Rattle.sheet.proofs.StepLaws.{row-is-kept, root-is-kept, reads-on, sheet-too-long, sheet-opened}
+use Rattle.sheet.specs.Form.{spell, Holdable}
+use Rattle.sheet.specs.Reading.{readLines, readSheet}
+use Rattle.sheet.specs.Offences.{Offence, SheetOffence}
+use Rattle.sheet.proofs.Outcomes.{spell-nothing, ReadSoFar, Outcome, spelled-whole, offended, outcome}
+use Rattle.sheet.proofs.Passing.{at-end, offender-is-refused, spelled-is-passed}
+use Rattle.sheet.proofs.StepLaws.{sheet-too-long, sheet-opened}
 
 -- What the outcome says of a table and of a refusal.
 whole-of :
@@ -96,77 +95,56 @@ module _ (z : Size) (rowsLent rootsLent : ℕ) where
           let none : _≡_ {A = ℕ} 0 1 = cc in
           absurd (omega arith)
 
+  -- Whatever is spelled of a table that a sheet can hold is read back the same.
+  pub spelled-is-read :
+      (rows : List Row) (roots : List ℕ) → Holdable z rowsLent rootsLent rows roots
+      → readSheet z rowsLent rootsLent (spell rows roots) ≡ table rows roots
+  spelled-is-read rows roots h =
+      sheet-opened z rowsLent rootsLent (spell rows roots) (h .sheetFits) refl refl
+      ∙ ap (readLines rowRoom rootRoom (length (spell rows roots)) [] []) whole
+      ∙ spelled-is-passed rowRoom rootRoom [] (table rows roots) (length (spell rows roots)) [] rows roots (h .rowsShort) (h .rootsShort)
+      (omega (arith, h .rowsFit)) (h .rootsFit) (omega (arith, ap length whole)) (λ k _. at-end rowRoom rootRoom k rows roots)
+    where
+      whole : spell rows roots ≡ spell rows roots ++ []
+      whole = sym (append-nil (spell rows roots))
+
+  -- So the reader accepts exactly the sheets of this form.
+  pub read-exactly :
+      (bytes : List ℕ) (rows : List Row) (roots : List ℕ)
+      → (readSheet z rowsLent rootsLent bytes ≡ table rows roots) ↔ ((spell rows roots ≡ bytes) × Holdable z rowsLent rootsLent rows roots)
+  read-exactly bytes rows roots = (
+    read-is-spelled bytes rows roots,
+    λ p. ap (readSheet z rowsLent rootsLent) (sym (p .0)) ∙ spelled-is-read rows roots (p .1),
+  )
+
   -- Whatever sheet is short enough and refused is refused at its first line that offends, and for how that line offends.
   pub refused-where-it-offends :
       (bytes : List ℕ) (why : Refusal) → length bytes ≤ sheetCeiling → readSheet z rowsLent rootsLent bytes ≡ refused why
       → Offence rowRoom rootRoom bytes why
   refused-where-it-offends bytes why h e = offence-of (sheet-outcome bytes h) e
 
--- Reading on through what is spelled.
-module _ (R P : ℕ) where
-  steps-on :
-      (k : ℕ) (rows : List Row) (roots s : List ℕ) (step : Step) → length s ≤ k
-      → stepOf R P (length rows) (length roots) (lineAt s) ≡ step
-      → readLines R P k rows roots s ≡ afterStep (readLines R P (k - 1)) rows roots step
-  steps-on k rows roots s step h e = reads-on R P k rows roots s h ∙ ap (afterStep (readLines R P (k - 1)) rows roots) e
+  -- And whatever sheet has such a line is refused for it.
+  pub offence-is-refused :
+      (bytes : List ℕ) (why : Refusal) → length bytes ≤ sheetCeiling → Offence rowRoom rootRoom bytes why
+      → readSheet z rowsLent rootsLent bytes ≡ refused why
+  offence-is-refused bytes why h o =
+      sheet-opened z rowsLent rootsLent bytes h refl refl
+      ∙ ap (readLines rowRoom rootRoom (length bytes) [] []) (o .spelled)
+      ∙ spelled-is-passed rowRoom rootRoom (o .rest) (refused why) (length bytes) [] (o .rows) (o .roots) (o .rowsShort) (o .rootsShort)
+      (omega (arith, o .rowsFit)) (o .rootsFit) (omega (arith, ap length (o .spelled)))
+      (offender-is-refused rowRoom rootRoom (o .rows) (o .roots) (o .rest) (o .offends))
 
-  at-end : (k : ℕ) (rows : List Row) (roots : List ℕ) → readLines R P k rows roots (spell [] []) ≡ table rows roots
-  unfolding stepOf
-  at-end k rows roots =
-      ap (readLines R P k rows roots) spell-nothing
-      ∙ steps-on k rows roots [] _ (omega arith) (ap (stepOf R P (length rows) (length roots)) no-bytes)
-
-  roots-read :
-      (k : ℕ) (rows : List Row) (roots new : List ℕ) → Every Short new → length roots + length new ≤ P → length (spell [] new) ≤ k
-      → readLines R P k rows roots (spell [] new) ≡ table rows (roots ++ new)
-  roots-read k rows roots [] a h g = at-end k rows roots ∙ ap (table rows) (sym (append-nil roots))
-  roots-read k rows roots (root ∷ new) a h g =
-      ap (readLines R P k rows roots) (spell-root root new)
-      ∙ steps-on k rows roots (spelledRoot root ++ spell [] new) (keepRoot root (spell [] new)) fits
-      (ap (stepOf R P (length rows) (length roots)) line ∙ root-is-kept R P (length rows) (length roots) root (spell [] new) (omega arith))
-      ∙ roots-read (k - 1) rows (roots ++ (root ∷ [])) new (a .1) (omega (arith, length-append roots (root ∷ [])))
-      (omega (arith, fits, root-shorter (spelledRoot root ++ spell [] new) line))
-      ∙ ap (table rows) (append-assoc roots (root ∷ []) new)
+  -- So the reader refuses exactly as the list says.
+  pub refused-exactly :
+      (bytes : List ℕ) (why : Refusal) → (readSheet z rowsLent rootsLent bytes ≡ refused why) ↔ SheetOffence z rowsLent rootsLent bytes why
+  refused-exactly bytes why = (λ e. by-size e (decLe (length bytes) sheetCeiling), refusal)
     where
-      line : lineAt (spelledRoot root ++ spell [] new) ≡ rootLine root (spell [] new)
-      line = root-line-reads root (spell [] new) (a .0)
+      by-size : readSheet z rowsLent rootsLent bytes ≡ refused why → Dec (length bytes ≤ sheetCeiling) → SheetOffence z rowsLent rootsLent bytes why
+      by-size e (yes h) = SheetOffence.atLine h (refused-where-it-offends bytes why h e)
+      by-size e (no h) =
+          let same : LongSheet ≡ why = cc (sheet-too-long z rowsLent rootsLent bytes (omega arith)) in
+          subst (SheetOffence z rowsLent rootsLent bytes) same (SheetOffence.tooLong (omega arith))
 
-      fits : length (spelledRoot root ++ spell [] new) ≤ k
-      fits = omega (arith, ap length (spell-root root new))
-
-  rows-read :
-      (k : ℕ) (rows new : List Row) (roots : List ℕ) → Every ShortRow new → Every Short roots → length rows + length new ≤ R
-      → length roots ≤ P → length (spell new roots) ≤ k → readLines R P k rows [] (spell new roots) ≡ table (rows ++ new) roots
-  rows-read k rows [] roots a b h g f =
-      roots-read k rows [] roots b (omega arith) f ∙ ap (λ (l : List Row). table l roots) (sym (append-nil rows))
-  rows-read k rows (row ∷ new) roots a b h g f =
-      ap (readLines R P k rows []) (spell-row row new roots)
-      ∙ steps-on k rows [] (spelledRow row ++ spell new roots) (keepRow row (spell new roots)) fits
-      (ap (stepOf R P (length rows) 0) line ∙ row-is-kept R P (length rows) 0 row (spell new roots) refl (omega arith))
-      ∙ rows-read (k - 1) (rows ++ (row ∷ [])) new roots (a .1) b (omega (arith, length-append rows (row ∷ []))) g
-      (omega (arith, fits, row-shorter (spelledRow row ++ spell new roots) line))
-      ∙ ap (λ (l : List Row). table l roots) (append-assoc rows (row ∷ []) new)
-    where
-      line : lineAt (spelledRow row ++ spell new roots) ≡ rowLine row (spell new roots)
-      line = row-line-reads row (spell new roots) (a .0)
-
-      fits : length (spelledRow row ++ spell new roots) ≤ k
-      fits = omega (arith, ap length (spell-row row new roots))
-
--- Whatever is spelled of a table that a sheet can hold is read back the same.
-pub spelled-is-read :
-    (z : Size) (rowsLent rootsLent : ℕ) (rows : List Row) (roots : List ℕ) → Holdable z rowsLent rootsLent rows roots
-    → readSheet z rowsLent rootsLent (spell rows roots) ≡ table rows roots
-spelled-is-read z rowsLent rootsLent rows roots h =
-    sheet-opened z rowsLent rootsLent (spell rows roots) (h .sheetFits) refl refl
-    ∙ rows-read (min rowCeiling rowsLent) (min (z .procs) rootsLent) (length (spell rows roots)) [] rows roots (h .rowsShort) (h .rootsShort)
-    (omega (arith, h .rowsFit)) (h .rootsFit) (omega arith)
-
--- So the reader accepts exactly the sheets of this form.
-pub read-exactly :
-    (z : Size) (rowsLent rootsLent : ℕ) (bytes : List ℕ) (rows : List Row) (roots : List ℕ)
-    → (readSheet z rowsLent rootsLent bytes ≡ table rows roots) ↔ ((spell rows roots ≡ bytes) × Holdable z rowsLent rootsLent rows roots)
-read-exactly z rowsLent rootsLent bytes rows roots = (
-  read-is-spelled z rowsLent rootsLent bytes rows roots,
-  λ p. ap (readSheet z rowsLent rootsLent) (sym (p .0)) ∙ spelled-is-read z rowsLent rootsLent rows roots (p .1),
-)
+      refusal : {r : Refusal} → SheetOffence z rowsLent rootsLent bytes r → readSheet z rowsLent rootsLent bytes ≡ refused r
+      refusal (SheetOffence.tooLong h) = sheet-too-long z rowsLent rootsLent bytes h
+      refusal (SheetOffence.atLine {why = r} h o) = offence-is-refused bytes r h o

@@ -25,6 +25,10 @@ pub data Stepped (R P n m : ℕ) (line : Line) : Step → Type 0 where
   root-kept : {root : ℕ} {t : List ℕ} → line ≡ rootLine root t → m < P → Stepped R P n m line (keepRoot root t)
 
 module _ (R P n m : ℕ) where
+  pub wrong-line : stepOf R P n m wrongLine ≡ refuse (wrongForm (n + m))
+  unfolding stepOf
+  wrong-line = refl
+
   pub late-row : (row : Row) (t : List ℕ) → 0 < m → stepOf R P n m (rowLine row t) ≡ refuse (wrongForm (n + m))
   unfolding stepOf
   late-row row t h = rw (lt-ltb 0 m h)
