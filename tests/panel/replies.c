@@ -2,8 +2,8 @@
  * One reply of each kind as the number that it is, the macros of panel.h aside,
  * on recipes of which nothing can change places unseen: rows and procedures,
  * xs and ys, a record's x and y, a refusal's number and its place. And each
- * kind by its word, and each ceiling of panel.h and one more. Ends with status 0 if all is as it should
- * be. Built and run by tests/panel/run.
+ * kind by its word, and each ceiling of panel.h and one more. Ends with status
+ * 0 if all is as it should be. Built and run by tests/panel/run.
  */
 #include <stdio.h>
 #include <string.h>
