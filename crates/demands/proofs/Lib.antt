@@ -2,4 +2,5 @@ pub mod LeastSolution
 pub mod Demands
 pub mod RuleRounds
 pub mod Reported
+pub mod Entries
 pub mod StarredRecipes
