@@ -21,6 +21,10 @@ use Rattle.listing.specs.Order.{Before, Ascending}
 
 -- ---- lists in turn
 
+-- no pair stands before itself
+pub before-irreflexive : (p : Pair) → ¬ Before p p
+before-irreflexive p = ⊎-elim (λ (l : p .0 < p .0). omega arith) (λ e. let l : p .1 < p .1 = e .1 in omega arith)
+
 ascending-joined :
     (a b : List Pair) → Ascending a → Ascending b → ((p q : Pair) → List·Memᴰ p a → List·Memᴰ q b → Before p q) → Ascending (a ++ b)
 ascending-joined [] b x y across = y

@@ -1,6 +1,7 @@
 -- The definitions at small tables, worked out by computation.
 -- Assumes nothing.
 use Prim.Native.Nat.{ℕ}
+use mathlib.Core.Bool.{true, false}
 use mathlib.Core.List.{[], _∷_}
 use mathlib.Core.Path.{_≡_, refl}
 use Rattle.numbers.specs.Sizes.{ours}
@@ -47,6 +48,39 @@ order = refl
 lower : judged ours (tableOf (0 ∷ 0 ∷ []) (1 ∷ 1 ∷ []) (0 ∷ 0 ∷ []) (0 ∷ [])) ≡ Refused (WrongOperand (record { 0 = 0 }))
 unfolding judged judgedBy lowest sizesRight operandsRight usesBy sumBelow
 lower = refl
+
+-- Each ceiling, and one more; no rows, no procedures, and operands that do not match the rows.
+ceilings :
+    (sizesRight ours 1024 1024 1024 64 ≡ true)
+    × (sizesRight ours 1025 1025 1025 64 ≡ false)
+    × (sizesRight ours 1024 1024 1024 65 ≡ false)
+    × (sizesRight ours 0 0 0 1 ≡ false)
+    × (sizesRight ours 1 1 1 0 ≡ false)
+    × (sizesRight ours 1 2 1 1 ≡ false)
+    × (sizesRight ours 1 1 2 1 ≡ false)
+unfolding sizesRight
+ceilings = (refl, refl, refl, refl, refl, refl, refl)
+
+-- A second operand where there is none, for each kind that has none.
+second-operands :
+    (judged ours (one 0 0 1) ≡ Refused (WrongOperand (record { 0 = 0 })))
+    × (judged ours (one 1 0 1) ≡ Refused (WrongOperand (record { 0 = 0 })))
+    × (judged ours (two 3 0 1 1) ≡ Refused (WrongOperand (record { 0 = 1 })))
+    × (judged ours (two 4 0 1 1) ≡ Refused (WrongOperand (record { 0 = 1 })))
+    × (judged ours (two 5 0 1 1) ≡ Refused (WrongOperand (record { 0 = 1 })))
+    × (judged ours (one 6 0 1) ≡ Refused (WrongOperand (record { 0 = 0 })))
+unfolding judged judgedBy lowest sizesRight operandsRight usesBy sumBelow
+second-operands = (refl, refl, refl, refl, refl, refl)
+
+-- Each rule is tried before the next: of two neighbours that are both broken the first decides.
+neighbours :
+    (judged ours (tableOf (7 ∷ []) [] (0 ∷ []) (0 ∷ [])) ≡ Refused Sizes)
+    × (judged ours (one 7 64 0) ≡ Refused (UnknownKind (record { 0 = 0 })))
+    × (judged ours (tableOf (1 ∷ []) (64 ∷ []) (0 ∷ []) (1 ∷ [])) ≡ Refused (WrongOperand (record { 0 = 0 })))
+    × (judged ours (two 2 0 0 2) ≡ Refused (NoSuchRow (record { 0 = 0 })))
+    × (judged ours (tableOf (0 ∷ 0 ∷ 2 ∷ []) (0 ∷ 0 ∷ 1 ∷ []) (0 ∷ 0 ∷ 1 ∷ []) (2 ∷ [])) ≡ Refused (UsedAgain (record { 0 = 1 })))
+unfolding judged judgedBy lowest sizesRight operandsRight usesBy sumBelow
+neighbours = (refl, refl, refl, refl, refl)
 
 -- A table with each of the seven kinds: main is async {step 0}; step 1, then come call 1 and finish {loop {skip}}.
 abbrev seven : Table
