@@ -1,4 +1,4 @@
--- Only the contracts of inner functions speak of these: a matrix cleared, and one copied over another.
+-- Only the contracts of functions below the entries speak of these: a matrix cleared, and one copied over another.
 use mathlib.Core.List.{List}
 use Prim.Native.Nat.{ℕ}
 use lib.ListN.{getD}

@@ -16,7 +16,8 @@ use Rattle.recipe.specs.Statements.{Child}
 use Rattle.recipe.specs.declared.Judged.the-variants.{Admitted}
 use Rattle.numbers.proofs.LowestLaws.{none-at-all, lowest-none}
 use Rattle.recipe.proofs.Operands.{and-first, and-second, child-before}
-use Rattle.recipe.proofs.Judging.{RightSizes, sized, sizes-test, passed-if-admitted, passed-on, all-passed, fromOperands, fromRoots, fromUsedAgain, fromUnused}
+use Rattle.recipe.proofs.Judging.{RightSizes, sized, sizes-test, passed-if-admitted, passed-on, all-passed, fromOperands, fromRoots}
+use Rattle.recipe.proofs.Judging.{fromUsedAgain, fromUnused}
 use Rattle.recipe.proofs.Judging.{sizes-passed, sizes-refused}
 
 module _ (z : Size) (t : Table) (ok : admitted z t) where

@@ -16,7 +16,8 @@ use Rattle.recipe.specs.Inner.{Counts}
 use Rattle.numbers.proofs.LowestLaws.{none-at-all}
 use Rattle.recipe.proofs.Operands.{child-before}
 use Rattle.recipe.proofs.Counters.{counts-none, lowest-at-two, lowest-at-zero}
-use Rattle.recipe.proofs.Judging.{RightSizes, sized, refused-at, passed-on, all-passed, fromKinds, fromOperands, fromRoots, fromUsedAgain, fromUnused, sizes-refused}
+use Rattle.recipe.proofs.Judging.{RightSizes, sized, refused-at, passed-on, all-passed, fromKinds, fromOperands, fromRoots, fromUsedAgain}
+use Rattle.recipe.proofs.Judging.{fromUnused, sizes-refused}
 use Rattle.recipe.proofs.Judging.{sizes-passed}
 use Rattle.recipe.proofs.judge.Statement.{statement}
 use Rattle.recipe.proofs.judge.Tie as tie
