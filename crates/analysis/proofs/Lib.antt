@@ -1,3 +1,4 @@
+mod Examples
 pub mod AtWork
 pub mod Shape
 pub mod Meanings

@@ -1,3 +1,4 @@
+mod Examples
 pub mod ReachedLaws
 pub mod SetLaws
 pub mod VerdictLaws

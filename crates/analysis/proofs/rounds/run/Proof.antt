@@ -34,9 +34,6 @@ worked c = c .before .before .before
 abbrev compared : tie.After-repeats Inv-loop μ-loop → tie.After-round Inv-loop μ-loop
 compared c = c .before .before .before .before
 
-abbrev copying : tie.After-held3 Inv-loop μ-loop → tie.After-repeats Inv-loop μ-loop
-copying c = c .before .before .before
-
 -- The state of the last turn begins with a whole matrix.
 matrix-inside : (c : tie.At-loop Inv-loop μ-loop) → length (take (matrixWords w) (c .loop .held)) ≡ matrixWords w
 matrix-inside c = length-take-le (matrixWords w) (c .loop .held) (omega (arith, state-size (c .loop .inv)))
@@ -82,16 +79,13 @@ loop-again c =
     let r = compared (c .before) in
     rounds-go-on (worked r .loop .inv) (r .round .ensures) _ (c .before .repeats .ensures) (c .if1 .left)
 
-array-share-prefix-held : tie.Need-array-share-prefix-held Inv-loop μ-loop
-array-share-prefix-held c = omega (arith, state-size (worked (compared (c .before .before)) .loop .inv))
-
 slice-aggregate-copy : tie.Need-slice-aggregate-copy Inv-loop μ-loop
-slice-aggregate-copy c = sym (matrix-inside (worked (compared (copying c))))
+slice-aggregate-copy c = sym (matrix-inside (worked (compared (c .before .before .before))))
 
 returns : tie.Need-returns Inv-loop μ-loop
 returns c =
     let copied = c .before .before in
-    let s = copying (copied .before) in
+    let s = copied .before .before .before .before in
     let r = compared s in
     let l = worked r in
     let a = entry (l .before) in
@@ -109,5 +103,5 @@ run-spec =
     (tie.spec
     Inv-loop μ-loop (λ c κs. search needs) (λ c κs. search needs) loop-holds slice-aggregate-round
     slice-aggregate-round-2 round-requires slice-aggregate-repeats slice-aggregate-repeats-2 repeats-requires
-    add-k loop-less loop-again array-share-prefix-held slice-aggregate-copy (λ c κs. search needs)
+    add-k loop-less loop-again (λ c. omega (arith, state-size (worked (compared (c .before .before)) .loop .inv))) slice-aggregate-copy (λ c κs. search needs)
     (λ c. search needs) returns)
