@@ -58,6 +58,13 @@ changed-alike (suc n) f g (x ∷ s) e =
     ap₂ (λ (y : ℕ) (t : List ℕ). y ∷ t) (e zero (zero-lt-suc n) (zero-lt-suc (length s)))
     (changed-alike n (λ k. f (suc k)) (λ k. g (suc k)) s (λ k h l. e (suc k) (suc-le-suc h) (suc-le-suc l)))
 
+-- a change that changes nothing
+pub changed-same : (n : ℕ) (s : List ℕ) → changed n (λ k x. x) s ≡ s
+unfolding changed
+changed-same zero s = refl
+changed-same (suc n) [] = refl
+changed-same (suc n) (x ∷ s) = ap (λ (t : List ℕ). x ∷ t) (changed-same n s)
+
 -- a change that keeps within a word leaves words
 pub words-changed :
     (n : ℕ) (f : ℕ → ℕ → ℕ) (s : List ℕ) → ((k x : ℕ) → x < 2 ^ wordBits → f k x < 2 ^ wordBits) → Words s → Words (changed n f s)

@@ -47,10 +47,13 @@ fn crossed_word(x: u64, label: Label, a: u64, b: u64) -> u64
     x | (bit_of(a, label) * b | bit_of(b, label) * a)
 }
 
-// Marks every (x,y) and every (y,x) with x in a and y in b.
+// Marks every (x,y) and every (y,x) with x in a and y in b. Where one of them is empty, which is often so, nothing is to be done.
 pub fn cross(matrix: &mut [u64], a: u64, b: u64)
     ensures { λ _. ⌜ now (matrix .exit) ≡ crossed (ours .words) (a ∷ []) (b ∷ []) (now (matrix .entry)) ⌝ }
 {
+    if a == 0 || b == 0 {
+        return;
+    }
     let n = held(matrix.len());
     let mut i = 0;
     while i < n {
