@@ -61,7 +61,10 @@
 extern "C" {
 #endif
 
-/* The version: 10,000 times the major number, 100 times the minor, and the patch; and as text. */
+/*
+ * The version, 10,000 times the major number, 100 times the minor, and the
+ * patch; and the same as text.
+ */
 #define BUSHKALOTE_VERSION 100
 #define BUSHKALOTE_VERSION_TEXT "0.1.0"
 
