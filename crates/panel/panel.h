@@ -1,12 +1,14 @@
 /*
  * The recipe tool for a panel's firmware: the six entries of libpanel.a.
+ * docs/PANEL.md is the guide to it: linking, stack, and an example.
  *
  * A slice is handed over as a pointer and a length, the length in elements,
  * not in bytes. A pointer is never null, also where the length is 0, and is
  * aligned for its element. What is written must not overlap any other slice.
  * Nothing is kept after the call. The analysis recurses as deep as the recipe
  * is nested, up to 1,024 rows, and needs stack for it; an entry on records
- * copies them there.
+ * copies them there. The library has no storage of its own that is written, so
+ * calls may run at the same time if none writes what another is lent.
  *
  * A recipe is its rows and its roots. The rows are handed over in one of two
  * ways, with an entry for each: as three slices of equal length, kinds, xs and
@@ -45,8 +47,9 @@
  *           the ceiling is reached
  *   14      bytes_len is too small for the listing             0
  *
- * 1 to 7 are tried one after the other, each over the whole recipe. A refused
- * call writes nothing.
+ * 1 to 7 are tried one after the other, each over the whole recipe. Of a sheet
+ * 11 is tried first; then the first line that is malformed or finds no room
+ * decides, 12 before 13. A refused call writes nothing.
  */
 #ifndef BUSHKALOTE_PANEL_H
 #define BUSHKALOTE_PANEL_H
@@ -57,6 +60,27 @@
 #ifdef __cplusplus
 extern "C" {
 #endif
+
+/*
+ * The version, 10,000 times the major number, 100 times the minor, and the
+ * patch; and the same as text.
+ */
+#define BUSHKALOTE_VERSION 100
+#define BUSHKALOTE_VERSION_TEXT "0.1.0"
+
+/* The numbers of replies, as in the table above. */
+#define BUSHKALOTE_SUCCESS 0
+#define BUSHKALOTE_WRONG_SIZES 1
+#define BUSHKALOTE_SHORT_MATRIX 2
+#define BUSHKALOTE_UNKNOWN_KIND 3
+#define BUSHKALOTE_WRONG_OPERAND 4
+#define BUSHKALOTE_NO_SUCH_ROW 5
+#define BUSHKALOTE_USED_AGAIN 6
+#define BUSHKALOTE_UNUSED 7
+#define BUSHKALOTE_LONG_SHEET 11
+#define BUSHKALOTE_WRONG_FORM 12
+#define BUSHKALOTE_NO_ROOM 13
+#define BUSHKALOTE_LONG_LISTING 14
 
 /* The most of everything; storage of these lengths is always enough. */
 #define BUSHKALOTE_ROWS 1024

@@ -80,7 +80,7 @@ static uint64_t list(size_t rows, size_t procedures, size_t room)
 static uint64_t analyse_text(const char *text)
 {
     uint64_t reply = read_text(text, BUSHKALOTE_ROWS, BUSHKALOTE_PROCEDURES);
-    if (BUSHKALOTE_NUMBER(reply) != 0)
+    if (BUSHKALOTE_NUMBER(reply) != BUSHKALOTE_SUCCESS)
         return reply;
     return analyse(BUSHKALOTE_ROWS_READ(reply), BUSHKALOTE_PROCEDURES_READ(reply), BUSHKALOTE_LABELS);
 }
@@ -104,8 +104,8 @@ static void on_records(void)
     memset(records, 0x77, sizeof records);
     memset(roots, 0x77, sizeof roots);
     expect("read the whole case into records",
-           bushkalote_read_rows(text, text_len, records, BUSHKALOTE_ROWS + 1, roots, BUSHKALOTE_PROCEDURES), 0,
-           10 + 65536 * 1);
+           bushkalote_read_rows(text, text_len, records, BUSHKALOTE_ROWS + 1, roots, BUSHKALOTE_PROCEDURES),
+           BUSHKALOTE_SUCCESS, 10 + 65536 * 1);
     expect_true("record 5 is seq 3 4", records[5].kind == 2 && records[5].x == 3 && records[5].y == 4);
     expect_true("the record beyond is untouched",
                 records[10].kind == 0x77 && records[10].x == 0x7777 && records[10].y == 0x7777);
@@ -114,35 +114,41 @@ static void on_records(void)
     /* The analysis and the listing. */
     memset(matrix, 0xff, sizeof matrix);
     expect("analyse the whole case on records",
-           bushkalote_analyse_rows(records, 10, roots, 1, matrix, BUSHKALOTE_LABELS + 1), 0, 1);
+           bushkalote_analyse_rows(records, 10, roots, 1, matrix, BUSHKALOTE_LABELS + 1),
+           BUSHKALOTE_SUCCESS, 1);
     expect_true("the matrix", matrix[0] == 0xe && matrix[1] == 0x5 && matrix[2] == 0x3 && matrix[3] == 0x1);
     expect_true("the word beyond is untouched", matrix[63] == 0 && matrix[64] == UINT64_MAX);
     memset(listing, '#', sizeof listing);
     expect("list the whole case on records",
-           bushkalote_list_rows(records, 10, roots, 1, matrix, BUSHKALOTE_LABELS, listing, sizeof listing), 0,
-           (uint32_t)full);
+           bushkalote_list_rows(records, 10, roots, 1, matrix, BUSHKALOTE_LABELS, listing, sizeof listing),
+           BUSHKALOTE_SUCCESS, (uint32_t)full);
     expect_true("the listing", memcmp(listing, whole_listing, full) == 0 && listing[full] == '#');
 
     /* Refusals leave everything lent as it was. */
     memset(listing, '#', sizeof listing);
     memset(matrix, 0x55, sizeof matrix);
     expect("listing on records in too few bytes",
-           bushkalote_list_rows(records, 10, roots, 1, matrix, BUSHKALOTE_LABELS, listing, full - 1), 14, 0);
+           bushkalote_list_rows(records, 10, roots, 1, matrix, BUSHKALOTE_LABELS, listing, full - 1),
+           BUSHKALOTE_LONG_LISTING, 0);
     expect("too many records",
-           bushkalote_analyse_rows(records, BUSHKALOTE_ROWS + 1, roots, 1, matrix, BUSHKALOTE_LABELS), 1, 0);
+           bushkalote_analyse_rows(records, BUSHKALOTE_ROWS + 1, roots, 1, matrix, BUSHKALOTE_LABELS),
+           BUSHKALOTE_WRONG_SIZES, 0);
     expect("a short matrix for records",
-           bushkalote_analyse_rows(records, 10, roots, 1, matrix, BUSHKALOTE_LABELS - 1), 2, 0);
+           bushkalote_analyse_rows(records, 10, roots, 1, matrix, BUSHKALOTE_LABELS - 1),
+           BUSHKALOTE_SHORT_MATRIX, 0);
     records[4].kind = 7;
     expect("a record's kind above 6",
-           bushkalote_analyse_rows(records, 10, roots, 1, matrix, BUSHKALOTE_LABELS), 3, 4);
+           bushkalote_analyse_rows(records, 10, roots, 1, matrix, BUSHKALOTE_LABELS),
+           BUSHKALOTE_UNKNOWN_KIND, 4);
     records[4].kind = 1;
     expect_true("the bytes and the matrix are unchanged", listing[0] == '#' && all_words(0x5555555555555555u));
     memset(records, 0x77, sizeof records);
     expect("a missing last newline, into records",
-           bushkalote_read_rows(text, text_len - 1, records, BUSHKALOTE_ROWS, roots, BUSHKALOTE_PROCEDURES), 12,
-           10);
+           bushkalote_read_rows(text, text_len - 1, records, BUSHKALOTE_ROWS, roots, BUSHKALOTE_PROCEDURES),
+           BUSHKALOTE_WRONG_FORM, 10);
     expect("room for nine of ten records",
-           bushkalote_read_rows(text, text_len, records, 9, roots, BUSHKALOTE_PROCEDURES), 13, 9);
+           bushkalote_read_rows(text, text_len, records, 9, roots, BUSHKALOTE_PROCEDURES),
+           BUSHKALOTE_NO_ROOM, 9);
     expect_true("the records are unchanged", records[0].kind == 0x77 && records[8].y == 0x7777);
 }
 
@@ -153,13 +159,13 @@ int main(void)
 
     /* Reading: ten rows and one procedure. */
     reply = read_text(whole_case, BUSHKALOTE_ROWS, BUSHKALOTE_PROCEDURES);
-    expect("read the whole case", reply, 0, 10 + 65536 * 1);
+    expect("read the whole case", reply, BUSHKALOTE_SUCCESS, 10 + 65536 * 1);
     expect_true("row 5 is seq 3 4", kinds[5] == 2 && xs[5] == 3 && ys[5] == 4);
     expect_true("main's root is row 9", roots[0] == 9);
 
     /* The analysis: one round, four pairs, both ways round, and nothing beyond word 63. */
     memset(matrix, 0xff, sizeof matrix);
-    expect("analyse the whole case", analyse(10, 1, BUSHKALOTE_LABELS + 1), 0, 1);
+    expect("analyse the whole case", analyse(10, 1, BUSHKALOTE_LABELS + 1), BUSHKALOTE_SUCCESS, 1);
     expect_true("partners of label 0", matrix[0] == 0xe);
     expect_true("partners of label 1", matrix[1] == 0x5);
     expect_true("partners of label 2", matrix[2] == 0x3);
@@ -169,7 +175,7 @@ int main(void)
 
     /* The listing. */
     memset(listing, '#', sizeof listing);
-    expect("list the whole case", list(10, 1, sizeof listing), 0, (uint32_t)full);
+    expect("list the whole case", list(10, 1, sizeof listing), BUSHKALOTE_SUCCESS, (uint32_t)full);
     expect_true("the listing", memcmp(listing, whole_listing, full) == 0);
     expect_true("the byte beyond is untouched", listing[full] == '#');
     if (differences == 0)
@@ -178,33 +184,34 @@ int main(void)
     /* 14: one byte too few leaves bytes and matrix as they were; just enough is enough. */
     memset(listing, '#', sizeof listing);
     memset(matrix, 0x55, sizeof matrix);
-    expect("listing in too few bytes", list(10, 1, full - 1), 14, 0);
+    expect("listing in too few bytes", list(10, 1, full - 1), BUSHKALOTE_LONG_LISTING, 0);
     expect_true("the bytes are unchanged", listing[0] == '#' && listing[full - 2] == '#');
     expect_true("the matrix is unchanged", all_words(0x5555555555555555u));
-    expect("listing in just enough bytes", list(10, 1, full), 0, (uint32_t)full);
+    expect("listing in just enough bytes", list(10, 1, full), BUSHKALOTE_SUCCESS, (uint32_t)full);
 
     /* 1 and 2. */
     memset(matrix, 0x55, sizeof matrix);
-    expect("no rows", analyse(0, 1, BUSHKALOTE_LABELS), 1, 0);
-    expect("no procedures", analyse(10, 0, BUSHKALOTE_LABELS), 1, 0);
+    expect("no rows", analyse(0, 1, BUSHKALOTE_LABELS), BUSHKALOTE_WRONG_SIZES, 0);
+    expect("no procedures", analyse(10, 0, BUSHKALOTE_LABELS), BUSHKALOTE_WRONG_SIZES, 0);
     expect("slices of unequal length",
-           bushkalote_analyse(kinds, 10, xs, 9, ys, 10, roots, 1, matrix, BUSHKALOTE_LABELS), 1, 0);
-    expect("a short matrix", analyse(10, 1, BUSHKALOTE_LABELS - 1), 2, 0);
+           bushkalote_analyse(kinds, 10, xs, 9, ys, 10, roots, 1, matrix, BUSHKALOTE_LABELS),
+           BUSHKALOTE_WRONG_SIZES, 0);
+    expect("a short matrix", analyse(10, 1, BUSHKALOTE_LABELS - 1), BUSHKALOTE_SHORT_MATRIX, 0);
     expect_true("the matrix is unchanged", all_words(0x5555555555555555u));
 
     /* 3: only a table can have such a kind. */
     kinds[4] = 7;
-    expect("a kind above 6", analyse(10, 1, BUSHKALOTE_LABELS), 3, 4);
+    expect("a kind above 6", analyse(10, 1, BUSHKALOTE_LABELS), BUSHKALOTE_UNKNOWN_KIND, 4);
     kinds[4] = 1;
 
     /* 4 to 7 from sheets. */
-    expect("label 63", analyse_text("R\tstep\t63\t0\nP\t0\n"), 0, 1);
+    expect("label 63", analyse_text("R\tstep\t63\t0\nP\t0\n"), BUSHKALOTE_SUCCESS, 1);
     memset(matrix, 0x55, sizeof matrix);
-    expect("label 64", analyse_text("R\tskip\t0\t0\nR\tstep\t64\t0\nP\t1\n"), 4, 1);
-    expect("a root that is no row", analyse_text("R\tskip\t0\t0\nP\t0\nP\t1\n"), 5, 1);
-    expect("a row used twice", analyse_text("R\tskip\t0\t0\nR\tseq\t0\t0\nP\t1\n"), 6, 0);
-    expect("a row used by nobody", analyse_text("R\tskip\t0\t0\nR\tskip\t0\t0\nP\t1\n"), 7, 0);
-    expect("an empty sheet", analyse_text(""), 1, 0);
+    expect("label 64", analyse_text("R\tskip\t0\t0\nR\tstep\t64\t0\nP\t1\n"), BUSHKALOTE_WRONG_OPERAND, 1);
+    expect("a root that is no row", analyse_text("R\tskip\t0\t0\nP\t0\nP\t1\n"), BUSHKALOTE_NO_SUCH_ROW, 1);
+    expect("a row used twice", analyse_text("R\tskip\t0\t0\nR\tseq\t0\t0\nP\t1\n"), BUSHKALOTE_USED_AGAIN, 0);
+    expect("a row used by nobody", analyse_text("R\tskip\t0\t0\nR\tskip\t0\t0\nP\t1\n"), BUSHKALOTE_UNUSED, 0);
+    expect("an empty sheet", analyse_text(""), BUSHKALOTE_WRONG_SIZES, 0);
     expect_true("the matrix is unchanged", all_words(0x5555555555555555u));
 
     /* 11 to 13 leave the storage as it was. */
@@ -213,13 +220,14 @@ int main(void)
     expect("a sheet too long",
            bushkalote_read_sheet(long_sheet, sizeof long_sheet, kinds, BUSHKALOTE_ROWS, xs, BUSHKALOTE_ROWS,
                                  ys, BUSHKALOTE_ROWS, roots, BUSHKALOTE_PROCEDURES),
-           11, 0);
-    expect("a missing last newline", read_text("R\tskip\t0\t0\nP\t0", 4, 4), 12, 1);
-    expect("a row after a procedure", read_text("R\tskip\t0\t0\nP\t0\nR\tskip\t0\t0\n", 4, 4), 12, 2);
-    expect("room for nine of ten rows", read_text(whole_case, 9, 1), 13, 9);
-    expect("room for no procedure", read_text(whole_case, 10, 0), 13, 10);
+           BUSHKALOTE_LONG_SHEET, 0);
+    expect("a missing last newline", read_text("R\tskip\t0\t0\nP\t0", 4, 4), BUSHKALOTE_WRONG_FORM, 1);
+    expect("a row after a procedure", read_text("R\tskip\t0\t0\nP\t0\nR\tskip\t0\t0\n", 4, 4),
+           BUSHKALOTE_WRONG_FORM, 2);
+    expect("room for nine of ten rows", read_text(whole_case, 9, 1), BUSHKALOTE_NO_ROOM, 9);
+    expect("room for no procedure", read_text(whole_case, 10, 0), BUSHKALOTE_NO_ROOM, 10);
     expect_true("the kinds are unchanged", kinds[0] == 0x77 && kinds[9] == 0x77);
-    expect("just enough room", read_text(whole_case, 10, 1), 0, 10 + 65536 * 1);
+    expect("just enough room", read_text(whole_case, 10, 1), BUSHKALOTE_SUCCESS, 10 + 65536 * 1);
 
     on_records();
 

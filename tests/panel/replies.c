@@ -2,14 +2,32 @@
  * One reply of each kind as the number that it is, the macros of panel.h aside,
  * on recipes of which nothing can change places unseen: rows and procedures,
  * xs and ys, a record's x and y, a refusal's number and its place. And each
- * kind by its word, and each ceiling of panel.h and one more. Ends with status
- * 0 if all is as it should be. Built and run by tests/panel/run.
+ * kind by its word, each ceiling of panel.h and one more, each name that it has
+ * for a number, and its version. Ends with status 0 if all is as it should be.
+ * Built and run by tests/panel/run.
  */
 #include <stdio.h>
 #include <string.h>
 
 #include "panel.h"
 #include "record.h"
+
+/* The numbers as they are published, and the version where a preprocessor asks for it. */
+_Static_assert(BUSHKALOTE_SUCCESS == 0, "success");
+_Static_assert(BUSHKALOTE_WRONG_SIZES == 1, "wrong sizes");
+_Static_assert(BUSHKALOTE_SHORT_MATRIX == 2, "a short matrix");
+_Static_assert(BUSHKALOTE_UNKNOWN_KIND == 3, "an unknown kind");
+_Static_assert(BUSHKALOTE_WRONG_OPERAND == 4, "a wrong operand");
+_Static_assert(BUSHKALOTE_NO_SUCH_ROW == 5, "a root that is no row");
+_Static_assert(BUSHKALOTE_USED_AGAIN == 6, "a row used again");
+_Static_assert(BUSHKALOTE_UNUSED == 7, "a row not used");
+_Static_assert(BUSHKALOTE_LONG_SHEET == 11, "a long sheet");
+_Static_assert(BUSHKALOTE_WRONG_FORM == 12, "a line of wrong form");
+_Static_assert(BUSHKALOTE_NO_ROOM == 13, "no room");
+_Static_assert(BUSHKALOTE_LONG_LISTING == 14, "a long listing");
+#if BUSHKALOTE_VERSION < 100
+#error "panel.h is older than its first version"
+#endif
 
 static int differences = 0;
 
@@ -158,12 +176,24 @@ static void ceilings(void)
     expect("65,537 bytes", bushkalote_read_rows(lines, 65537, loops, 1024, roots, 64), 0xb00000000);
 }
 
+/* The version's text is its number. */
+static void version(void)
+{
+    char text[32];
+    int length = snprintf(text, sizeof text, "%d.%d.%d", BUSHKALOTE_VERSION / 10000,
+                          BUSHKALOTE_VERSION / 100 % 100, BUSHKALOTE_VERSION % 100);
+
+    expect("the version's length", (uint64_t)length, sizeof BUSHKALOTE_VERSION_TEXT - 1);
+    expect_bytes("the version", text, BUSHKALOTE_VERSION_TEXT, sizeof BUSHKALOTE_VERSION_TEXT);
+}
+
 int main(void)
 {
     read_and_listed();
     told_apart();
     words();
     ceilings();
+    version();
     if (differences != 0)
         fprintf(stderr, "%d differences\n", differences);
     return differences != 0;
