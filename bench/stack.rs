@@ -1,4 +1,4 @@
-//! The most stack that each of the library's entries takes, on chains as deep as 1,024 rows can be.
+//! The stack that each of the library's entries takes for a single row, and the most on chains as deep as 1,024 rows can be.
 //!
 //!   cargo run --release --bin stack        (in tests/second, BUSHKALOTE_PANEL the folder of libpanel.a)
 //!
@@ -99,7 +99,7 @@ mod painted {
         ("seq, second", 2, |_, s| seq(step(1), s)),
     ];
 
-    /// A line an entry: the most that it takes, a level's part of it, and the first chain that takes so much.
+    /// A line an entry: what it takes for a single row, the most, a level's part of it, and the first chain that takes so much.
     fn table() {
         let panel = second::panel::library().expect("the linked library");
         let takes = |levels, wrap: Wrap| of_table(panel.as_ref(), &nested(levels, wrap));
@@ -107,12 +107,17 @@ mod painted {
             let levels = ROWS / rows;
             (of, levels / 2, takes(levels / 2, wrap), takes(levels, wrap))
         });
-        println!("{:<14} {:>8} {:>8}  chain of", "entry", "bytes", "a level");
+        let single = takes(1, |_, s| s);
+        println!(
+            "{:<14} {:>8} {:>8} {:>8}  chain of",
+            "entry", "one row", "most", "a level"
+        );
         for (i, entry) in ENTRIES.iter().enumerate() {
             let most = all.iter().map(|(.., full)| full[i]).max().unwrap();
             let (of, levels, half, _) = all.iter().find(|(.., full)| full[i] == most).unwrap();
             let level = (most - half[i]) as f64 / *levels as f64;
-            println!("{entry:<14} {most:>8} {level:>8.1}  {of}");
+            let one = single[i];
+            println!("{entry:<14} {one:>8} {most:>8} {level:>8.1}  {of}");
         }
     }
 
