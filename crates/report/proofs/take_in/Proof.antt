@@ -10,10 +10,10 @@ use Rattle.report.proofs.take_in.Statement.{statement}
 use Rattle.report.proofs.take_in.Tie as tie
 
 abbrev Inv-loop : tie.InvT-loop
-Inv-loop buffer₀ done₀ buffer done = (done ≤ length buffer) × (length buffer ≡ length buffer₀)
+Inv-loop file buffer₀ done₀ buffer done = (done ≤ length buffer) × (length buffer ≡ length buffer₀)
 
 abbrev μ-loop : tie.MeasureT-loop
-μ-loop buffer₀ done₀ buffer done = length buffer₀ - done
+μ-loop file buffer₀ done₀ buffer done = length buffer₀ - done
 
 -- From what was read back to the call that read it, and from there to the loop's turn.
 abbrev piece : tie.After-n Inv-loop μ-loop → tie.After-more Inv-loop μ-loop
@@ -30,11 +30,11 @@ more-requires c κs = c .before .before .loop .inv .0
 
 same-length : tie.Need-same-length Inv-loop μ-loop
 same-length c =
-    let read = c .before .before .before .before in read .more .kept .0 ∙ turn read .before .loop .inv .1
+    let read = c .before .before .before .before in read .more .kept .1 .0 ∙ turn read .before .loop .inv .1
 
 same-length-2 : tie.Need-same-length-2 Inv-loop μ-loop
 same-length-2 c =
-    let read = piece (c .before .before) in read .more .kept .0 ∙ turn read .before .loop .inv .1
+    let read = piece (c .before .before) in read .more .kept .1 .0 ∙ turn read .before .loop .inv .1
 
 add-done : tie.Need-add-done Inv-loop μ-loop
 add-done c =
@@ -53,7 +53,7 @@ loop-again : tie.Need-loop-again Inv-loop μ-loop
 loop-again c =
     let read = piece (c .before .before) in
     let few = subst (AtMost _) (c .before .before .n .given .1) (read .more .ensures) in
-    let kept = read .more .kept .0 in
+    let kept = read .more .kept .1 .0 in
     let inv = turn read .before .loop .inv in
     (omega (arith, few, kept, inv .0, turn read .loop-test .taken), kept ∙ inv .1)
 
