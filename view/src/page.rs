@@ -87,7 +87,10 @@ fn header(name: &str, recipe: &Recipe, labels: &[usize], listing: &Listing) -> S
             "the list may hold pairs that no run shows; it never lacks one.",
         )
     } else {
-        ("exact", "every pair listed is shown by some run.")
+        (
+            "exact",
+            "every pair listed is shown by some run, and none is missing.",
+        )
     };
     format!(
         r##"<header>

@@ -20,7 +20,7 @@
     for (const link of linksOf(fragment)) link.setAttribute("aria-pressed", "true");
     for (const step of document.querySelectorAll(".step.on")) step.classList.remove("on");
     for (const step of allStepsOf(fragment)) step.classList.add("on");
-    shown.textContent = fragment === "" ? hint : sentence(labelsOf(fragment));
+    shown.replaceChildren(...(fragment === "" ? [hint] : sentence(labelsOf(fragment))));
     shown.parentElement.classList.toggle("some", fragment !== "");
     clear.hidden = fragment === "";
     chosen = fragment;
@@ -28,15 +28,23 @@
 
   function sentence([low, high]) {
     return low === high
-      ? `Label ${place(low)} may run at the same time as itself.`
-      : `Label ${place(low)} and label ${place(high)} may run at the same time.`;
+      ? ["Label ", ...place(low), " may run at the same time as itself."]
+      : ["Label ", ...place(low), " and label ", ...place(high), " may run at the same time."];
   }
 
+  // A label and the rows of its steps, the first few as links.
   function place(label) {
     const found = stepsOf(label);
-    return found.length === 1
-      ? `${label} (row ${found[0].id.slice("row-".length)})`
-      : `${label} (${found.length} rows)`;
+    const links = found.slice(0, 3).flatMap((step) => [", ", rowLink(step)]).slice(1);
+    const more = found.length > 3 ? ` and ${found.length - 3} more` : "";
+    return [`${label} (${found.length === 1 ? "row" : "rows"} `, ...links, `${more})`];
+  }
+
+  function rowLink(step) {
+    const link = document.createElement("a");
+    link.href = `#${step.id}`;
+    link.textContent = step.id.slice("row-".length);
+    return link;
   }
 
   // Of the first steps of both labels the upper one comes last, so that it surely shows.
@@ -56,18 +64,19 @@
 
   function choose(fragment) {
     mark(fragment);
+    if (fragment !== "") {
+      bringStepsIntoView(fragment);
+      bringLineIntoView(fragment);
+    }
     history.replaceState(null, "", fragment === "" ? location.pathname + location.search : fragment);
-    if (fragment === "") return;
-    bringStepsIntoView(fragment);
-    bringLineIntoView(fragment);
   }
 
-  // A call leads to its procedure, and the address goes on naming the pair.
-  function showProcedure(fragment) {
-    const procedure = document.getElementById(fragment.slice(1));
-    procedure.open = true;
-    procedure.scrollIntoView({ block: "nearest", inline: "nearest" });
-    procedure.querySelector("summary").focus({ preventScroll: true });
+  // A link to a procedure or a row leads there, and the address goes on naming the pair.
+  function goTo(fragment) {
+    const place = document.getElementById(fragment.slice(1));
+    place.closest("details").open = true;
+    place.scrollIntoView({ block: "nearest", inline: "nearest" });
+    place.querySelector("summary")?.focus({ preventScroll: true });
   }
 
   // The marked cell that lies next in a direction, or none.
@@ -119,7 +128,7 @@
     event.preventDefault();
     const fragment = link.getAttribute("href");
     if (pairForm.test(fragment)) choose(fragment === chosen ? "" : fragment);
-    else showProcedure(fragment);
+    else goTo(fragment);
   }
 
   function onKey(event) {

@@ -276,7 +276,7 @@ fn check_words(name: &str, opening: &[String], elements: &[Element]) {
     let rounds = format!("Rounds{}\n", opening[3]);
     let verdict = match opening[4].as_str() {
         "wide" => "wide: the list may hold pairs that no run shows; it never lacks one.",
-        _ => "exact: every pair listed is shown by some run.",
+        _ => "exact: every pair listed is shown by some run, and none is missing.",
     };
     for part in [count.as_str(), &rounds, verdict] {
         assert!(header.contains(part), "{part:?} in {header:?}");
