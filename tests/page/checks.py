@@ -213,8 +213,8 @@ def without_scripts(checks):
 def pictures(checks, folder):
     browser = checks.browser
     for name, page, fragment, size, scheme in [
-        ("burnt-batch", "burnt-batch", "#pair-0-1", (1200, 764), "light"),
-        ("burnt-batch-dark", "burnt-batch", "#pair-0-1", (1200, 764), "dark"),
+        ("burnt-batch", "burnt-batch", "#pair-0-1", (1200, 754), "light"),
+        ("burnt-batch-dark", "burnt-batch", "#pair-0-1", (1200, 754), "dark"),
         ("many-labels", "figure-1-third-62", "#pair-3-60", (1600, 1000), "light"),
         ("deep", "13c-rows-1024", "", (1200, 900), "light"),
     ]:
