@@ -207,6 +207,14 @@ def without_scripts(checks):
     browser.click('.list a[href="#pair-0-3"]')
     checks.same("lit by a line", sorted(browser.value(LIT)), ["row-1", "row-4"])
     checks.quiet()
+    checks.open("figure-1-third-3")
+    browser.click("#procedure-1 > summary")
+    visible = "document.querySelector('#row-3').checkVisibility()"
+    checks.same("a folded step", browser.value(visible), False)
+    browser.window(1200, 900, medium="print")
+    checks.same("a folded step in print", browser.value(visible), True)
+    checks.quiet()
+    browser.window(1200, 900)
     browser.scripts(True)
 
 

@@ -128,7 +128,7 @@ fn footer() -> &'static str {
 <dl>
 <div><dt>Pair</dt><dd>Some step with the one label and some step with the other may run at the same time. A label may stand in several steps.</dd></div>
 <div><dt>Side branch</dt><dd>Its block is started, and the recipe goes on at once.</dd></div>
-<div><dt>Wait</dt><dd>The recipe goes on when all that its block has started has ended.</dd></div>
+<div><dt>Wait</dt><dd>The recipe goes on when its block and all that it has started have ended.</dd></div>
 <div><dt>Loop</dt><dd>Its block runs any number of times, also none.</dd></div>
 <div><dt>Call</dt><dd>The procedure's block runs here.</dd></div>
 <div><dt>Rounds</dt><dd>How often all procedures were worked through until nothing changed.</dd></div>

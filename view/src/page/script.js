@@ -100,6 +100,9 @@
     return next && next.firstElementChild;
   }
 
+  // A key or a click with a modifier is the browser's: a new tab, one page back.
+  const isPlain = (event) => !(event.ctrlKey || event.metaKey || event.altKey || event.shiftKey);
+
   const directions = { ArrowRight: [1, 0], ArrowLeft: [-1, 0], ArrowDown: [0, 1], ArrowUp: [0, -1] };
 
   // One stop of the tab key for the whole of it; the arrows go on from there.
@@ -115,7 +118,7 @@
     });
     whole.addEventListener("keydown", (event) => {
       const direction = directions[event.key];
-      if (!direction) return;
+      if (!direction || !isPlain(event)) return;
       event.preventDefault();
       const link = next(stop, ...direction);
       if (link) link.focus();
@@ -124,7 +127,7 @@
 
   function onClick(event) {
     const link = event.target.closest("a");
-    if (!link) return;
+    if (!link || !isPlain(event)) return;
     event.preventDefault();
     const fragment = link.getAttribute("href");
     if (pairForm.test(fragment)) choose(fragment === chosen ? "" : fragment);
@@ -154,8 +157,13 @@
   document.addEventListener("keydown", onKey);
   clear.addEventListener("click", () => choose(""));
   window.addEventListener("hashchange", followAddress);
+  let folded = [];
   window.addEventListener("beforeprint", () => {
-    for (const procedure of document.querySelectorAll("details")) procedure.open = true;
+    folded = [...document.querySelectorAll("details:not([open])")];
+    for (const procedure of folded) procedure.open = true;
+  });
+  window.addEventListener("afterprint", () => {
+    for (const procedure of folded) procedure.open = false;
   });
   // The browser goes to the line of the list that the address names; the steps matter more.
   window.addEventListener("load", () => {
