@@ -7,20 +7,30 @@ pub mod sheet;
 mod shown;
 
 use std::ops::Range;
+use std::slice::from_ref;
 
-use sheet::{Row, Sheet, CEILING, KINDS, LABELS, PROCEDURES, ROWS};
+use sheet::{kinds, Row, Sheet, CEILING, LABELS, PROCEDURES, ROWS};
 use shown::{marked, Tabs};
+
+const CHANGED: &str = "The sheet does not show why any more; has it changed since it was read?";
+const LENT_MATRIX: &str =
+    "The program lends a matrix that is large enough, so that no sheet is refused with this.";
+const LENT_BYTES: &str =
+    "The program lends bytes for the longest listing, so that no sheet is refused with this.";
+const ROWS_ALLOWED: &str = "A recipe has 1 to 1,024 rows, the lines that begin with R.";
+const PROCEDURES_ALLOWED: &str =
+    "A recipe has 1 to 64 procedures, the lines behind the rows that begin with P; the first is main.";
 
 /// The text for people, of a refusal with this number and place. The bytes are the sheet's, or so many of its size that
 /// it is known to be too long.
 pub fn explain(name: &str, bytes: &[u8], size: u64, number: usize, place: usize) -> String {
     let sheet = Sheet::read(bytes);
     let found = match number {
-        // These are given once the whole sheet is read.
-        1..=7 if !sheet.is_whole() => None,
+        // These are given only where the whole sheet could be read.
+        1 | 4..=7 if !sheet.is_whole() => None,
         1 => sizes(&sheet),
-        2 => Some(indented("The program lends a matrix that is large enough, so that no sheet is refused with this.")),
-        3 => unknown_kind(),
+        2 => Some(indented(LENT_MATRIX)),
+        3 => Some(indented(&kinds())),
         4 => operands(&sheet, place),
         5 => root(&sheet, place),
         6 => used_again(&sheet, place),
@@ -28,43 +38,36 @@ pub fn explain(name: &str, bytes: &[u8], size: u64, number: usize, place: usize)
         11 => too_long(size),
         12 => malformed(&sheet, place),
         13 => no_room(&sheet, place),
-        14 => Some(indented("The program lends bytes for the longest listing, so that no sheet is refused with this.")),
+        14 => Some(indented(LENT_BYTES)),
         _ => None,
     };
-    let found = found.unwrap_or_else(|| {
-        indented("The sheet does not show why any more; has it changed since it was read?")
-    });
-    format!(
-        "{}: refused, {}\n{found}",
-        plain(name),
-        words(number, place)
-    )
+    let found = found.unwrap_or_else(|| indented(CHANGED));
+    let refusal = words(number, place);
+    format!("{}: refused, {refusal}\n{found}", plain(name))
 }
 
 /// A refusal and its place in words.
 fn words(number: usize, place: usize) -> String {
-    let (what, at) = match number {
-        1 => ("rows or procedures missing, or too many", String::new()),
-        2 => ("a matrix of too few words", String::new()),
-        3 => ("an unknown kind", format!(", row {place}")),
-        4 => (
-            "an operand that its kind does not allow",
-            format!(", row {place}"),
-        ),
-        5 => ("a root that is not a row", format!(", procedure {place}")),
-        6 => (
-            "a row that is used more than once",
-            format!(", row {place}"),
-        ),
-        7 => ("a row that is not used", format!(", row {place}")),
-        11 => ("a sheet that is too long", String::new()),
-        12 => ("a malformed line", line_words(place)),
-        13 => ("a row or procedure too many", line_words(place)),
-        14 => ("a listing that does not fit", String::new()),
-        _ => (
-            "for a reason that has no words here",
-            format!(", place {place}"),
-        ),
+    let what = match number {
+        1 => "rows or procedures missing, or too many",
+        2 => "a matrix of too few words",
+        3 => "an unknown kind",
+        4 => "an operand that its kind does not allow",
+        5 => "a root that is not a row",
+        6 => "a row that is used more than once",
+        7 => "a row that is not used",
+        11 => "a sheet that is too long",
+        12 => "a malformed line",
+        13 => "a row or procedure too many",
+        14 => "a listing that does not fit",
+        _ => "for a reason that has no words here",
+    };
+    let at = match number {
+        1 | 2 | 11 | 14 => String::new(),
+        3 | 4 | 6 | 7 => format!(", row {place}"),
+        5 => format!(", procedure {place}"),
+        12 | 13 => line_words(place),
+        _ => format!(", place {place}"),
     };
     format!("{what} ({number}){at}")
 }
@@ -110,21 +113,19 @@ fn shown_procedure(sheet: &Sheet, procedure: usize, marks: &[Range<usize>]) -> S
 fn sizes(sheet: &Sheet) -> Option<String> {
     let fits = |count: usize, most: usize| (1..=most).contains(&count);
     let (rows, procedures) = (sheet.rows.len(), sheet.roots.len());
-    if !sheet.is_whole() || fits(rows, ROWS) && fits(procedures, PROCEDURES) {
+    if fits(rows, ROWS) && fits(procedures, PROCEDURES) {
         return None;
     }
+    let rows_counted = counted(rows, "row");
+    let procedures_counted = counted(procedures, "procedure");
     let mut text = indented(&format!(
-        "The sheet has {} and {}.",
-        counted(rows, "row"),
-        counted(procedures, "procedure")
+        "The sheet has {rows_counted} and {procedures_counted}."
     ));
     if !fits(rows, ROWS) {
-        text.push_str(&indented(
-            "A recipe has 1 to 1,024 rows, the lines that begin with R.",
-        ));
+        text.push_str(&indented(ROWS_ALLOWED));
     }
     if !fits(procedures, PROCEDURES) {
-        text.push_str(&indented("A recipe has 1 to 64 procedures, the lines behind the rows that begin with P; the first is main."));
+        text.push_str(&indented(PROCEDURES_ALLOWED));
     }
     Some(text)
 }
@@ -139,24 +140,10 @@ fn counted(count: usize, what: &str) -> String {
 
 /// A number with a comma before each three of its digits.
 fn grouped(number: u64) -> String {
-    let digits = number.to_string();
-    let mut text = String::new();
-    for (at, digit) in digits.chars().enumerate() {
-        if at > 0 && (digits.len() - at) % 3 == 0 {
-            text.push(',');
-        }
-        text.push(digit);
+    match number {
+        0..=999 => number.to_string(),
+        _ => format!("{},{:03}", grouped(number / 1_000), number % 1_000),
     }
-    text
-}
-
-/// A sheet spells kinds as words, and an unknown word makes a malformed line.
-fn unknown_kind() -> Option<String> {
-    Some(indented(&format!(
-        "A kind is {} or {}.",
-        KINDS[..6].join(", "),
-        KINDS[6]
-    )))
 }
 
 fn operands(sheet: &Sheet, place: usize) -> Option<String> {
@@ -250,7 +237,7 @@ fn root(sheet: &Sheet, place: usize) -> Option<String> {
     let rule = indented(&format!(
         "A procedure's root is a row that the sheet has: {due}"
     ));
-    Some(shown_procedure(sheet, place, &[root.at.clone()]) + &rule)
+    Some(shown_procedure(sheet, place, from_ref(&root.at)) + &rule)
 }
 
 /// Where on its line a row names another one as its child: a sequence has two children, loop, async and finish have one.
@@ -278,7 +265,7 @@ fn users(sheet: &Sheet, used: usize) -> (String, usize) {
     for (at, root) in sheet.roots.iter().enumerate() {
         if root.row == used {
             uses += 1;
-            text.push_str(&shown_procedure(sheet, at, &[root.at.clone()]));
+            text.push_str(&shown_procedure(sheet, at, from_ref(&root.at)));
         }
     }
     (text, uses)
@@ -307,7 +294,7 @@ fn unused(sheet: &Sheet, place: usize) -> Option<String> {
     }
     let whole = 0..sheet.lines[place].bytes.len();
     let rule = indented(ONE_USER) + &indented("Nothing uses this one.");
-    Some(shown_row(sheet, place, &[whole]) + &rule)
+    Some(shown_row(sheet, place, from_ref(&whole)) + &rule)
 }
 
 fn too_long(size: u64) -> Option<String> {
@@ -333,7 +320,7 @@ fn malformed(sheet: &Sheet, place: usize) -> Option<String> {
         true => indented("(\\t is a tab.)"),
         false => String::new(),
     };
-    Some(marked(&head, line.bytes, &[at], Tabs::Spelt) + &indented(&rule) + &key)
+    Some(marked(&head, line.bytes, from_ref(&at), Tabs::Spelt) + &indented(&rule) + &key)
 }
 
 /// A row line of the right form is wrong all the same behind a procedure line.
@@ -360,5 +347,5 @@ fn no_room(sheet: &Sheet, place: usize) -> Option<String> {
         _ => return None,
     };
     let head = format!("  line {}:  ", place + 1);
-    Some(marked(&head, line.bytes, &[0..1], Tabs::Blank) + &indented(rule))
+    Some(marked(&head, line.bytes, from_ref(&(0..1)), Tabs::Blank) + &indented(rule))
 }

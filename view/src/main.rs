@@ -50,7 +50,8 @@ fn told(text: &str, status: u8) -> ExitCode {
 }
 
 fn count(word: &OsStr) -> Option<usize> {
-    word.to_str()?.parse().ok()
+    let number: u16 = word.to_str()?.parse().ok()?;
+    Some(number.into())
 }
 
 fn explain(name: &OsStr, file: &OsStr, number: usize, place: usize) -> Result<(), String> {

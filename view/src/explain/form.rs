@@ -1,7 +1,7 @@
 //! The first field of a line that is not of the right form.
 use std::ops::Range;
 
-use super::sheet::{Line, KINDS};
+use super::sheet::{kinds, Line, KINDS};
 
 /// What is wrong with a line's form: the bytes to mark, and what is due there.
 pub struct Fault {
@@ -109,7 +109,7 @@ fn keyword(line: &[u8], at: usize) -> Read<usize> {
     if small {
         return fault(at..end, "Kinds are written in small letters.");
     }
-    let due = format!("A kind is {} or {}.", KINDS[..6].join(", "), KINDS[6]);
+    let due = kinds();
     match line.get(at) {
         None => fault(
             at..at + 1,

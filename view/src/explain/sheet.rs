@@ -10,6 +10,12 @@ pub const LABELS: usize = 64;
 /// The kinds of rows, in the order of their numbers.
 pub const KINDS: [&str; 7] = ["skip", "step", "seq", "loop", "async", "finish", "call"];
 
+/// The kinds in words. A sheet spells them, so that an unknown one makes a malformed line.
+pub fn kinds() -> String {
+    let [before @ .., last] = KINDS;
+    format!("A kind is {} or {last}.", before.join(", "))
+}
+
 /// A line without its newline, and whether it has one.
 #[derive(Clone, Copy)]
 pub struct Line<'a> {

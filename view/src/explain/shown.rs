@@ -10,9 +10,8 @@ pub enum Tabs {
     Spelt,
 }
 
-/// The widest that a line is shown, and how much of it at most before its first mark if it is wider.
+/// The widest that a line is shown. What stands before its first mark is of the right form, and so it is short.
 const WIDEST: usize = 72;
-const BEFORE: usize = 32;
 
 /// A byte as it is shown, and whether it is marked.
 struct Cell {
@@ -23,19 +22,15 @@ struct Cell {
 /// The line behind its head, and below it the marks. A mark may stand on the place behind the last byte.
 pub fn marked(head: &str, line: &[u8], marks: &[Range<usize>], tabs: Tabs) -> String {
     let cells = cells(line, marks, tabs);
-    let window = window(&cells);
+    let fitting = fitting(&cells);
     let mut above = String::from(head);
     let mut below = " ".repeat(head.len());
-    if window.start > 0 {
-        above.push_str("...");
-        below.push_str("   ");
-    }
-    for cell in &cells[window.clone()] {
+    for cell in &cells[..fitting] {
         let mark = if cell.marked { "^" } else { " " };
         above.push_str(&cell.text);
         below.push_str(&mark.repeat(cell.text.len()));
     }
-    if window.end < cells.len() {
+    if fitting < cells.len() {
         above.push_str("...");
     }
     let mut shown = String::from(above.trim_end());
@@ -77,23 +72,14 @@ fn spelt(byte: u8, tabs: Tabs) -> String {
     }
 }
 
-/// The cells that are shown: all if they are not too wide together, and else those about the first mark.
-fn window(cells: &[Cell]) -> Range<usize> {
-    let width = |cell: &Cell| cell.text.len();
-    if cells.iter().map(width).sum::<usize>() <= WIDEST {
-        return 0..cells.len();
-    }
-    let mut start = cells.iter().position(|cell| cell.marked).unwrap_or(0);
-    let mut before = 0;
-    while start > 0 && before + width(&cells[start - 1]) <= BEFORE {
-        start -= 1;
-        before += width(&cells[start]);
-    }
-    let mut end = start;
-    let mut taken = 0;
-    while end < cells.len() && taken + width(&cells[end]) <= WIDEST {
-        taken += width(&cells[end]);
-        end += 1;
-    }
-    start..end
+/// How many cells are shown: all, if they are not too wide together.
+fn fitting(cells: &[Cell]) -> usize {
+    let mut width = 0;
+    cells
+        .iter()
+        .take_while(|cell| {
+            width += cell.text.len();
+            width <= WIDEST
+        })
+        .count()
 }
