@@ -32,7 +32,7 @@ progress() {
 begin "the first build"
 forget
 run "PATH=$fakes:$work/flock ./pairs $burnt"
-status 0; prints "$listing"; progress | same "$err" tells
+status 0; prints "$listing"; same "$err" tells < <(progress)
 built report 1; absent "$tree/target/view"
 
 begin "no second build"
@@ -106,12 +106,11 @@ done
 wait
 for one in 1 2; do
     [ "$(cat "$work/status$one")" = 0 ] || fault "status $(cat "$work/status$one")"
-    printf %s "$listing" | same "$work/out$one" prints
+    same "$work/out$one" prints < <(printf %s "$listing")
 done
 built report 1; built text 1
-cat "$work/err1" "$work/err2" >"$err"
-{ progress; echo "pairs: another build is under way; waiting for it"; } | sort >"$work/due"
-sort "$err" | same "$work/due" "nobody is told, or too much:"
+sort "$work/err1" "$work/err2" >"$err"
+same "$err" tells < <({ progress; echo "pairs: another build is under way; waiting for it"; } | sort)
 
 for signal in INT TERM KILL; do
     begin "a build broken off by $signal"
@@ -122,6 +121,8 @@ for signal in INT TERM KILL; do
     builder=$!
     for _ in {1..100}; do [ ! -e "$tree/target/bin/report" ] || break; sleep 0.05; done
     there "$tree/target/bin/report"
+    # A shell passes over INT if the command that it waits for ends well, as the one that made the half program does.
+    sleep 0.3
     kill -"$signal" -- "-$builder"
     wait "$builder" 2>/dev/null
     absent "$tree/target/pairs.report"

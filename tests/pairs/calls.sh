@@ -174,7 +174,7 @@ status 3
 begin "a reader of standard error who has gone"
 run "{ sleep 0.1; ./pairs $bad 2>&1 >'$work/printed'; echo \$? >'$work/status'; } | true"
 status=$(cat "$work/status")
-status 1; printf %s "$refused" | same "$work/printed" prints
+status 1; same "$work/printed" prints < <(printf %s "$refused")
 
 begin "no room for temporary files"
 run "TMPDIR=$work/nowhere ./pairs - <$burnt"
