@@ -1,0 +1,180 @@
+# Builds, with stand-ins for rt and cargo, since proving takes minutes.
+# shellcheck shell=bash disable=SC2154,SC2034
+
+# A path with what pairs needs, and without rt, cargo and flock; then with some of them.
+bare=$work/bare
+mkdir "$bare" "$work/flock"
+for tool in bash sh env cat readlink dirname mktemp rm mkdir mv find awk sort cut sleep head uname cp chmod touch grep; do
+    ln -s "$(command -v "$tool")" "$bare/$tool"
+done
+ln -s "$(command -v flock)" "$work/flock/flock"
+fakes=$here/fake:$bare
+
+program=$root/target/bin/report
+cp "$tree/target/view/release/view" "$work/view"
+export FAKE_PROGRAM=$program FAKE_VIEW=$work/view FAKE_RUNS=$work/runs
+built() {
+    local times
+    times=$(grep -cx "$1" "$FAKE_RUNS")
+    [ "$times" -eq "$2" ] || fault "$1 is built $times times and not $2"
+}
+forget() { rm -rf "$tree/target" "$FAKE_RUNS"; : >"$FAKE_RUNS"; }
+
+progress() {
+    echo "pairs: building the program: proving up to 13 crates, about 3 minutes for all on two processors"
+    local at=0 name
+    for name in numbers calculus text labels matrix recipe calls analysis table listing sheet answer report; do
+        at=$((at + 1))
+        echo "pairs:   $at of 13: $name"
+    done
+}
+
+begin "the first build"
+forget
+run "PATH=$fakes:$work/flock ./pairs $burnt"
+status 0; prints "$listing"; same "$err" tells < <(progress)
+built report 1; absent "$tree/target/view"
+
+begin "no second build"
+run "PATH=$fakes:$work/flock ./pairs $burnt"
+status 0; prints "$listing"; tells ""; built report 1
+
+begin "a built program needs no rt"
+run "PATH=$bare ./pairs $burnt"
+status 0; prints "$listing"; tells ""
+
+begin "the program missing while its stamps are there"
+rm "$tree/target/bin/report"
+run "PATH=$fakes ./pairs $burnt"
+status 0; prints "$listing"; tells_of "13 of 13: report"; built report 2; built text 1
+
+begin "rt missing where a build is needed"
+rm "$tree/target/bin/report"
+run "PATH=$bare ./pairs $burnt"
+status 3; prints ""; tells_of "needs the Rattle kit"
+run "PATH=$fakes ./pairs $burnt"
+status 0
+
+for source in crates.txt crates/text/src/lib.rt crates/recipe/specs/Rules.antt crates/calls/proofs; do
+    begin "newer than the program: $source"
+    sleep 0.02
+    touch "$tree/$source"
+    : >"$FAKE_RUNS"
+    run "PATH=$fakes ./pairs $burnt"
+    status 0; prints "$listing"; built rt 1
+    run "PATH=$fakes ./pairs $burnt"
+    built rt 1
+done
+
+begin "a source newer, and no rt"
+touch "$tree/crates/text/src/lib.rt"
+run "PATH=$bare ./pairs $burnt"
+status 3; prints ""; tells_of "needs the Rattle kit"
+
+begin "a source that goes"
+run "PATH=$fakes ./pairs $burnt"
+touch "$tree/crates/text/specs/More.antt"
+run "PATH=$fakes ./pairs $burnt"
+sleep 0.02
+rm "$tree/crates/text/specs/More.antt"
+run "PATH=$bare ./pairs $burnt"
+status 3; tells_of "needs the Rattle kit"
+
+begin "a source that changes while it is built"
+forget
+run "FAKE_WAY=edits PATH=$fakes ./pairs $burnt"
+status 0
+: >"$FAKE_RUNS"
+run "PATH=$fakes ./pairs $burnt"
+status 0; prints "$listing"; built text 1
+
+begin "a build that fails"
+forget
+run "FAKE_WAY=fails PATH=$fakes ./pairs $burnt"
+status 3; prints ""; tells_of "pairs: the build failed; its log is $tree/target/pairs-report.log"
+grep -qF "report NOT PROVED" "$tree/target/pairs-report.log" || fault "the log does not say why"
+
+begin "a build after one that failed"
+run "PATH=$fakes ./pairs $burnt"
+status 0; prints "$listing"; built text 1
+
+begin "two builds at once"
+forget
+for one in 1 2; do
+    (cd "$tree" && PATH=$fakes:$work/flock ./pairs "$burnt" >"$work/out$one" 2>"$work/err$one"; echo "$?" >"$work/status$one") &
+done
+wait
+for one in 1 2; do
+    [ "$(cat "$work/status$one")" = 0 ] || fault "status $(cat "$work/status$one")"
+    same "$work/out$one" prints < <(printf %s "$listing")
+done
+built report 1; built text 1
+sort "$work/err1" "$work/err2" >"$err"
+same "$err" tells < <({ progress; echo "pairs: another build is under way; waiting for it"; } | sort)
+
+for signal in INT TERM KILL; do
+    begin "a build broken off by $signal"
+    forget
+    # What is started in the background ignores INT, and bash cannot undo that.
+    (cd "$tree" && exec setsid env --default-signal=INT FAKE_WAY=stalls "PATH=$fakes:$work/flock" ./pairs "$burnt") \
+        >"$out" 2>"$err" &
+    builder=$!
+    for _ in {1..100}; do [ ! -e "$tree/target/bin/report" ] || break; sleep 0.05; done
+    there "$tree/target/bin/report"
+    # A shell passes over INT if the command that it waits for ends well, as the one that made the half program does.
+    sleep 0.3
+    kill -"$signal" -- "-$builder"
+    wait "$builder" 2>/dev/null
+    absent "$tree/target/pairs.report"
+    run "PATH=$fakes:$work/flock ./pairs $burnt"
+    status 0; prints "$listing"; built report 2; built text 1
+done
+
+begin "a target that cannot be written"
+rm -rf "$tree/target"
+: >"$tree/target"
+run "PATH=$fakes ./pairs $burnt"
+status 3; prints ""; tells "pairs: cannot write to $tree/target$line"
+
+begin "a program that gives nothing"
+forget
+printf '#!/bin/sh\n' >"$work/silent"
+chmod +x "$work/silent"
+run "FAKE_PROGRAM=$work/silent PATH=$fakes ./pairs $burnt 2>&1 | tail -n 1; exit \${PIPESTATUS[0]}"
+status 3; prints "pairs: the program gave no answer about $burnt (status 0)$line"
+
+begin "a program that dies"
+forget
+printf '#!/bin/sh\necho pairs\nexit 9\n' >"$work/silent"
+run "FAKE_PROGRAM=$work/silent PATH=$fakes ./pairs $burnt 2>&1 | tail -n 1; exit \${PIPESTATUS[0]}"
+status 3; prints "pairs: the program gave no answer about $burnt (status 9)$line"
+
+begin "what explains is built once, when it is needed"
+forget
+run "PATH=$fakes ./pairs $burnt"
+built view 0
+run "PATH=$fakes ./pairs $bad $bad"
+status 1; tells_of "A step's label is 0 to 63."; built view 1
+run "PATH=$bare ./pairs $bad"
+status 1; tells "$(words "$bad")$line"; built view 1
+
+begin "what explains is built again"
+sleep 0.02
+touch "$tree/view/src/explain.rs"
+run "PATH=$fakes ./pairs $bad"
+status 1; built view 2
+
+begin "no cargo for a refusal"
+touch "$tree/view/src/explain.rs"
+run "PATH=$bare ./pairs $bad $bad"
+status 1; prints "$bad$line$refused$bad$line$refused"
+tells "pairs: the explanation of a refusal needs cargo, which is not on the path$line"
+
+begin "no cargo for a page"
+run "PATH=$bare ./pairs --page c.html $burnt"
+status 3; prints ""; tells "pairs: a page needs cargo, which is not on the path$line"
+absent "$tree/c.html"
+
+begin "what explains does not build"
+run "FAKE_VIEW= PATH=$fakes ./pairs $bad"
+status 1; prints "$refused"; tells_of "its log is $tree/target/pairs-view.log"
