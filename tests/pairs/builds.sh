@@ -108,13 +108,15 @@ for one in 1 2; do
     [ "$(cat "$work/status$one")" = 0 ] || fault "status $(cat "$work/status$one")"
     same "$work/out$one" prints < <(printf %s "$listing")
 done
-built report 1; built text 1
+built rt 1; built report 1
 sort "$work/err1" "$work/err2" >"$err"
 same "$err" tells < <({ progress; echo "pairs: another build is under way; waiting for it"; } | sort)
 
 for signal in INT TERM KILL; do
     begin "a build broken off by $signal"
     forget
+    run "PATH=$fakes:$work/flock ./pairs $burnt"
+    rm "$tree/target/bin/report"
     # What is started in the background ignores INT, and bash cannot undo that.
     (cd "$tree" && exec setsid env --default-signal=INT FAKE_WAY=stalls "PATH=$fakes:$work/flock" ./pairs "$burnt") \
         >"$out" 2>"$err" &
@@ -127,7 +129,7 @@ for signal in INT TERM KILL; do
     wait "$builder" 2>/dev/null
     absent "$tree/target/pairs.report"
     run "PATH=$fakes:$work/flock ./pairs $burnt"
-    status 0; prints "$listing"; built report 2; built text 1
+    status 0; prints "$listing"; built report 3; built text 1
 done
 
 begin "a target that cannot be written"
