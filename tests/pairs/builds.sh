@@ -143,13 +143,31 @@ forget
 printf '#!/bin/sh\n' >"$work/silent"
 chmod +x "$work/silent"
 run "FAKE_PROGRAM=$work/silent PATH=$fakes ./pairs $burnt 2>&1 | tail -n 1; exit \${PIPESTATUS[0]}"
-status 3; prints "pairs: the program gave no answer about $burnt (status 0)$line"
+status 3; prints "pairs: the program gave no answer about $burnt$line"
 
 begin "a program that dies"
 forget
 printf '#!/bin/sh\necho pairs\nexit 9\n' >"$work/silent"
 run "FAKE_PROGRAM=$work/silent PATH=$fakes ./pairs $burnt 2>&1 | tail -n 1; exit \${PIPESTATUS[0]}"
-status 3; prints "pairs: the program gave no answer about $burnt (status 9)$line"
+status 3; prints "pairs: the program gave no answer about $burnt$line"
+
+begin "a program that gives no answer, half of one and a whole one"
+forget
+cat >"$work/silent" <<'END'
+#!/bin/sh
+read -r first
+case $first in
+    silent) ;;
+    half) printf 'pairs\t2\trounds\t1\texact\n0\t1\n' ;;
+    *) printf 'pairs\t1\trounds\t1\texact\n0\t1\n' ;;
+esac
+END
+for answer in silent half whole; do echo "$answer" >"$tree/$answer"; done
+run "FAKE_PROGRAM=$work/silent PATH=$fakes ./pairs silent half whole"
+status 3
+prints "half${line}pairs${tab}2${tab}rounds${tab}1${tab}exact${line}0${tab}1${line}whole${line}pairs${tab}1${tab}rounds${tab}1${tab}exact${line}0${tab}1$line"
+tells_of "no answer about silent"; tells_of "no answer about half"
+! grep -q whole "$err" || fault "tells of the whole answer"
 
 begin "what explains is built once, when it is needed"
 forget

@@ -110,6 +110,21 @@ begin "odd names beside each other"
 run "cd odd && ../pairs -- -h $(printf %q "$newline")"
 status 0; prints "-h$line$listing$newline$line$listing"
 
+begin "a refused file with a tab in its name beside another"
+cp "$tree/$bad" "$tree/odd/a${tab}b"
+run "cd odd && ../pairs 'a${tab}b' it*"
+status 1; prints "a${tab}b$line${refused}it's.sheet$line$listing"; tells "$(words 'a\tb')$line"
+
+begin "many sheets"
+mkdir "$tree/many"
+many=''
+for number in {100..350}; do
+    ln -s "../$burnt" "$tree/many/$number.sheet"
+    many="${many}many/$number.sheet$line$listing"
+done
+run "./pairs many"
+status 0; prints "$many"; tells ""
+
 begin "standard input behind --"
 run "./pairs -- - <$burnt"
 status 0; prints "$listing"
