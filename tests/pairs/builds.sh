@@ -155,12 +155,15 @@ begin "a program that gives no answer, half of one and a whole one"
 forget
 cat >"$work/silent" <<'END'
 #!/bin/sh
-read -r first
-case $first in
-    silent) ;;
-    half) printf 'pairs\t2\trounds\t1\texact\n0\t1\n' ;;
-    *) printf 'pairs\t1\trounds\t1\texact\n0\t1\n' ;;
-esac
+# Answers the sheet on standard input, or those in the files that are named.
+answer() {
+    case $1 in
+        half) printf 'pairs\t2\trounds\t1\texact\n0\t1\n' ;;
+        whole) printf 'pairs\t1\trounds\t1\texact\n0\t1\n' ;;
+    esac
+}
+[ $# -gt 0 ] || { read -r sheet; answer "$sheet"; }
+for name in "$@"; do echo "$name"; answer "$name"; done
 END
 for answer in silent half whole; do echo "$answer" >"$tree/$answer"; done
 run "FAKE_PROGRAM=$work/silent PATH=$fakes ./pairs silent half whole"
