@@ -1,5 +1,5 @@
 # Builds, with stand-ins for rt and cargo, since proving takes minutes.
-# shellcheck shell=bash disable=SC2154,SC2034
+# shellcheck shell=bash disable=SC2154,SC2034,SC2206
 
 # A path with what pairs needs, and without rt, cargo and flock; then with some of them.
 bare=$work/bare
@@ -12,7 +12,7 @@ fakes=$here/fake:$bare
 
 program=$root/target/bin/report
 cp "$tree/target/view/release/view" "$work/view"
-export FAKE_PROGRAM=$program FAKE_VIEW=$work/view FAKE_RUNS=$work/runs
+export FAKE_CRATES=$crates FAKE_PROGRAM=$program FAKE_VIEW=$work/view FAKE_RUNS=$work/runs
 built() {
     local times
     times=$(grep -cx "$1" "$FAKE_RUNS")
@@ -21,12 +21,10 @@ built() {
 forget() { rm -rf "$tree/target" "$FAKE_RUNS"; : >"$FAKE_RUNS"; }
 
 progress() {
-    echo "pairs: building the program: proving up to 13 crates, about 3 minutes for all on two processors"
-    local at=0 name
-    for name in numbers calculus text labels matrix recipe calls analysis table listing sheet answer report; do
-        at=$((at + 1))
-        echo "pairs:   $at of 13: $name"
-    done
+    local crates=($FAKE_CRATES) at
+    local count=${#crates[@]}
+    echo "pairs: building the program: proving up to $count crates, about 3 minutes for all on two processors"
+    for at in "${!crates[@]}"; do echo "pairs:   $((at + 1)) of $count: ${crates[at]}"; done
 }
 
 begin "the first build"
@@ -46,7 +44,7 @@ status 0; prints "$listing"; tells ""
 begin "the program missing while its stamps are there"
 rm "$tree/target/bin/report"
 run "PATH=$fakes ./pairs $burnt"
-status 0; prints "$listing"; tells_of "13 of 13: report"; built report 2; built text 1
+status 0; prints "$listing"; tells_of ": report"; built report 2; built text 1
 
 begin "rt missing where a build is needed"
 rm "$tree/target/bin/report"
