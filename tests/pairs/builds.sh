@@ -1,5 +1,5 @@
 # Builds, with stand-ins for rt and cargo, since proving takes minutes.
-# shellcheck shell=bash disable=SC2154,SC2034
+# shellcheck shell=bash disable=SC2154,SC2034,SC2206
 
 # A path with what pairs needs, and without rt, cargo and flock; then with some of them.
 bare=$work/bare
@@ -12,7 +12,7 @@ fakes=$here/fake:$bare
 
 program=$root/target/bin/report
 cp "$tree/target/view/release/view" "$work/view"
-export FAKE_PROGRAM=$program FAKE_VIEW=$work/view FAKE_RUNS=$work/runs
+export FAKE_CRATES=$crates FAKE_PROGRAM=$program FAKE_VIEW=$work/view FAKE_RUNS=$work/runs
 built() {
     local times
     times=$(grep -cx "$1" "$FAKE_RUNS")
@@ -21,12 +21,10 @@ built() {
 forget() { rm -rf "$tree/target" "$FAKE_RUNS"; : >"$FAKE_RUNS"; }
 
 progress() {
-    echo "pairs: building the program: proving up to 13 crates, about 3 minutes for all on two processors"
-    local at=0 name
-    for name in numbers calculus text labels matrix recipe calls analysis table listing sheet answer report; do
-        at=$((at + 1))
-        echo "pairs:   $at of 13: $name"
-    done
+    local crates=($FAKE_CRATES) at
+    local count=${#crates[@]}
+    echo "pairs: building the program: proving up to $count crates, about 3 minutes for all on two processors"
+    for at in "${!crates[@]}"; do echo "pairs:   $((at + 1)) of $count: ${crates[at]}"; done
 }
 
 begin "the first build"
@@ -46,7 +44,7 @@ status 0; prints "$listing"; tells ""
 begin "the program missing while its stamps are there"
 rm "$tree/target/bin/report"
 run "PATH=$fakes ./pairs $burnt"
-status 0; prints "$listing"; tells_of "13 of 13: report"; built report 2; built text 1
+status 0; prints "$listing"; tells_of ": report"; built report 2; built text 1
 
 begin "rt missing where a build is needed"
 rm "$tree/target/bin/report"
@@ -108,13 +106,15 @@ for one in 1 2; do
     [ "$(cat "$work/status$one")" = 0 ] || fault "status $(cat "$work/status$one")"
     same "$work/out$one" prints < <(printf %s "$listing")
 done
-built report 1; built text 1
+built rt 1; built report 1
 sort "$work/err1" "$work/err2" >"$err"
 same "$err" tells < <({ progress; echo "pairs: another build is under way; waiting for it"; } | sort)
 
 for signal in INT TERM KILL; do
     begin "a build broken off by $signal"
     forget
+    run "PATH=$fakes:$work/flock ./pairs $burnt"
+    rm "$tree/target/bin/report"
     # What is started in the background ignores INT, and bash cannot undo that.
     (cd "$tree" && exec setsid env --default-signal=INT FAKE_WAY=stalls "PATH=$fakes:$work/flock" ./pairs "$burnt") \
         >"$out" 2>"$err" &
@@ -127,7 +127,7 @@ for signal in INT TERM KILL; do
     wait "$builder" 2>/dev/null
     absent "$tree/target/pairs.report"
     run "PATH=$fakes:$work/flock ./pairs $burnt"
-    status 0; prints "$listing"; built report 2; built text 1
+    status 0; prints "$listing"; built report 3; built text 1
 done
 
 begin "a target that cannot be written"
@@ -141,13 +141,34 @@ forget
 printf '#!/bin/sh\n' >"$work/silent"
 chmod +x "$work/silent"
 run "FAKE_PROGRAM=$work/silent PATH=$fakes ./pairs $burnt 2>&1 | tail -n 1; exit \${PIPESTATUS[0]}"
-status 3; prints "pairs: the program gave no answer about $burnt (status 0)$line"
+status 3; prints "pairs: the program gave no answer about $burnt$line"
 
 begin "a program that dies"
 forget
 printf '#!/bin/sh\necho pairs\nexit 9\n' >"$work/silent"
 run "FAKE_PROGRAM=$work/silent PATH=$fakes ./pairs $burnt 2>&1 | tail -n 1; exit \${PIPESTATUS[0]}"
-status 3; prints "pairs: the program gave no answer about $burnt (status 9)$line"
+status 3; prints "pairs: the program gave no answer about $burnt$line"
+
+begin "a program that gives no answer, half of one and a whole one"
+forget
+cat >"$work/silent" <<'END'
+#!/bin/sh
+# Answers the sheet on standard input, or those in the files that are named.
+answer() {
+    case $1 in
+        half) printf 'pairs\t2\trounds\t1\texact\n0\t1\n' ;;
+        whole) printf 'pairs\t1\trounds\t1\texact\n0\t1\n' ;;
+    esac
+}
+[ $# -gt 0 ] || { read -r sheet; answer "$sheet"; }
+for name in "$@"; do echo "$name"; answer "$name"; done
+END
+for answer in silent half whole; do echo "$answer" >"$tree/$answer"; done
+run "FAKE_PROGRAM=$work/silent PATH=$fakes ./pairs silent half whole"
+status 3
+prints "half${line}pairs${tab}2${tab}rounds${tab}1${tab}exact${line}0${tab}1${line}whole${line}pairs${tab}1${tab}rounds${tab}1${tab}exact${line}0${tab}1$line"
+tells_of "no answer about silent"; tells_of "no answer about half"
+! grep -q whole "$err" || fault "tells of the whole answer"
 
 begin "what explains is built once, when it is needed"
 forget

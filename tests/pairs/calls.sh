@@ -72,9 +72,10 @@ mkdir "$folder" "$folder/deeper" "$folder/not.sheet" "$tree/empty"
 cp "$tree/$burnt" "$folder/b.sheet"
 cp "$tree/$mended" "$folder/B.sheet"
 cp "$tree/$bad" "$folder/a b.sheet"
+cp "$tree/$mended" "$folder/.hidden.sheet"
 cp "$tree/$bad" "$folder/other.txt"
 cp "$tree/$bad" "$folder/deeper/c.sheet"
-in_folder="a folder/B.sheet$line${none}a folder/a b.sheet$line${refused}a folder/b.sheet$line$listing"
+in_folder="a folder/.hidden.sheet$line${none}a folder/B.sheet$line${none}a folder/a b.sheet$line${refused}a folder/b.sheet$line$listing"
 
 for given in 'a folder' 'a folder/'; do
     begin "the folder '$given'"
@@ -108,6 +109,21 @@ done
 begin "odd names beside each other"
 run "cd odd && ../pairs -- -h $(printf %q "$newline")"
 status 0; prints "-h$line$listing$newline$line$listing"
+
+begin "a refused file with a tab in its name beside another"
+cp "$tree/$bad" "$tree/odd/a${tab}b"
+run "cd odd && ../pairs 'a${tab}b' it*"
+status 1; prints "a${tab}b$line${refused}it's.sheet$line$listing"; tells "$(words 'a\tb')$line"
+
+begin "many sheets"
+mkdir "$tree/many"
+many=''
+for number in {100..350}; do
+    ln -s "../$burnt" "$tree/many/$number.sheet"
+    many="${many}many/$number.sheet$line$listing"
+done
+run "./pairs many"
+status 0; prints "$many"; tells ""
 
 begin "standard input behind --"
 run "./pairs -- - <$burnt"
