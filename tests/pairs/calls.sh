@@ -72,10 +72,10 @@ mkdir "$folder" "$folder/deeper" "$folder/not.sheet" "$tree/empty"
 cp "$tree/$burnt" "$folder/b.sheet"
 cp "$tree/$mended" "$folder/B.sheet"
 cp "$tree/$bad" "$folder/a b.sheet"
-cp "$tree/$mended" "$folder/.hidden.sheet"
+cp "$tree/$bad" "$folder/.hidden.sheet"
 cp "$tree/$bad" "$folder/other.txt"
 cp "$tree/$bad" "$folder/deeper/c.sheet"
-in_folder="a folder/.hidden.sheet$line${none}a folder/B.sheet$line${none}a folder/a b.sheet$line${refused}a folder/b.sheet$line$listing"
+in_folder="a folder/B.sheet$line${none}a folder/a b.sheet$line${refused}a folder/b.sheet$line$listing"
 
 for given in 'a folder' 'a folder/'; do
     begin "the folder '$given'"
