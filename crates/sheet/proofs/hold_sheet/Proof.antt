@@ -63,7 +63,7 @@ opened :
     readSheet ours (a .places .rows) (a .places .roots) (now (a .bytes)) ≡ whole (bytes c) (room c .rows) (room c .roots)
 opened c =
     let fits = sized c .within-ceilings .ensures in
-    sheet-opened ours _ _ _ (sized c .before .if1 .left) (fits .0) (fits .1)
+    sheet-opened ours _ _ (bytes c) (omega (arith, sized c .before .if1 .left)) (fits .0) (fits .1)
 
 returns : tie.Need-returns Inv-loop μ-loop
 returns c = c .refusal .ensures ∙ ap heldOf (sym (sheet-too-long ours _ _ _ (c .before .if1 .taken)))

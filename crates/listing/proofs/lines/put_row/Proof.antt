@@ -23,7 +23,7 @@ loop-holds c =
     let a = c .before .before .args in (le-refl (a .i .0), begins (a .i .0) (omega arith) (λ j h. no-pair-below (a .partners ∷ []) (a .i .0) j h))
 
 put-pair-requires : tie.Need-put-pair-requires Inv-loop μ-loop
-put-pair-requires c κs = c .before .before .loop .inv .0
+put-pair-requires c κs = omega arith
 
 loop-again : tie.Need-loop-again Inv-loop μ-loop
 loop-again c =

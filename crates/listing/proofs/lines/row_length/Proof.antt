@@ -24,7 +24,7 @@ loop-holds c =
     (le-refl (a .i .0), sum-begins (a .i .0) (omega arith) (λ j h. no-pair-below (a .partners ∷ []) (a .i .0) j h), omega arith)
 
 pair-length-requires : tie.Need-pair-length-requires Inv-loop μ-loop
-pair-length-requires c κs = c .before .loop .inv .0
+pair-length-requires c κs = omega arith
 
 add-sum : tie.Need-add-sum Inv-loop μ-loop
 add-sum c = omega (arith, c .before .before .loop .inv .1 .passed)
