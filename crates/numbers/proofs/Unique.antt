@@ -3,9 +3,13 @@
 use mathlib.Core.Path.{_≡_, sym, _∙_}
 use Rattle.numbers.proofs.Refusal.number.Reads.{Post as number-post}
 use Rattle.numbers.proofs.Refusal.place.Reads.{Post as place-post}
+use Rattle.numbers.proofs.least.Reads.{Post as least-post}
 
 pub number-determined : (κs a r r' s s' : _) → number-post κs a r s → number-post κs a r' s' → r ≡ r'
 number-determined κs a r r' s s' p q = p ∙ sym q
 
 pub place-determined : (κs a r r' s s' : _) → place-post κs a r s → place-post κs a r' s' → r ≡ r'
 place-determined κs a r r' s s' p q = p ∙ sym q
+
+pub least-determined : (κs a r r' s s' : _) → least-post κs a r s → least-post κs a r' s' → r ≡ r'
+least-determined κs a r r' s s' p q = p ∙ sym q

@@ -1,5 +1,6 @@
 // The lowest room: row, procedure and line numbers kept apart, the ceilings by size, the numbered refusals, and definitions of general use.
 ghost use mathlib.Core.Path.{_≡_};
+ghost use Prim.Native.Nat.{min};
 ghost use Rattle.numbers.specs.Refusals.{refusalNumber, refusalPlace};
 
 // The number of a row. It is no procedure number and no label.
@@ -96,4 +97,11 @@ impl Refusal {
             Refusal::LongListing => 0,
         }
     }
+}
+
+// The smaller of two numbers.
+pub fn least(a: usize, b: usize) -> usize
+    ensures { λ r. ⌜ r ≡ min a b ⌝ }
+{
+    if a < b { a } else { b }
 }

@@ -71,7 +71,7 @@ pub fn read_sheet(
         × (now (roots .exit) ≡ laid (rootsOf w) (now (roots .entry)))))) ⌝ }
 {
     let places = Room {
-        rows: table::least(kinds.len(), table::least(xs.len(), ys.len())),
+        rows: numbers::least(kinds.len(), numbers::least(xs.len(), ys.len())),
         roots: roots.len(),
     };
     let held = hold_sheet(bytes, places);

@@ -15,7 +15,6 @@ use denote.Ref.{now}
 use Rattle.recipe.specs.declared.Row.{Row}
 use Rattle.table.specs.Inner.{overlaid, columnsOf}
 use Rattle.table.specs.declared.Columns.{Columns}
-use Rattle.table.proofs.least.Reads.{Post as least-post}
 use Rattle.table.proofs.Room.within_ceilings.Reads.{Post as within-ceilings-post}
 use Rattle.table.proofs.reported.Reads.{Post as reported-post}
 use Rattle.table.proofs.no_rows.Reads.{Post as no-rows-post}
@@ -25,9 +24,6 @@ use Rattle.table.proofs.store_rows.Reads.{Post as store-rows-post}
 use Rattle.table.proofs.store_roots.Reads.{Post as store-roots-post}
 use Rattle.table.proofs.copy_out as copy-out
 use Rattle.table.proofs.copy_in as copy-in
-
-pub least-determined : (κs a r r' s s' : _) → least-post κs a r s → least-post κs a r' s' → r ≡ r'
-least-determined κs a r r' s s' p q = p ∙ sym q
 
 pub within-ceilings-determined :
     (κs a r r' s s' : _) → within-ceilings-post κs a r s → within-ceilings-post κs a r' s' → (r .rows ≡ r' .rows) × (r .roots ≡ r' .roots)

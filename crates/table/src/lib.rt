@@ -8,14 +8,8 @@ ghost use Rattle.table.specs.Inner.{rowCount, rootCount, overlaid, noRow
 use numbers::ProcNumber;
 use numbers::Refusal;
 use numbers::RowNumber;
+use numbers::least;
 use recipe::Row;
-
-// The smaller of two numbers.
-pub fn least(a: usize, b: usize) -> usize
-    ensures { λ r. ⌜ r ≡ min a b ⌝ }
-{
-    if a < b { a } else { b }
-}
 
 // How many rows and how many roots: room for them, or so many that are kept.
 pub struct Room {
