@@ -69,6 +69,15 @@ touch "$tree/crates/text/src/lib.rt"
 run "PATH=$bare ./pairs $burnt"
 status 3; prints ""; tells_of "needs the Rattle kit"
 
+begin "a source laid out with an older time, as by an archive"
+run "PATH=$fakes:$work/flock ./pairs $burnt"
+: >"$FAKE_RUNS"
+sleep 0.02
+echo "// laid out anew" >>"$tree/crates/text/src/lib.rt"
+touch -d '2001-01-01' "$tree/crates/text/src/lib.rt" "$tree/crates/text/src"
+run "PATH=$fakes:$work/flock ./pairs $burnt"
+status 0; prints "$listing"; built rt 1
+
 begin "a source that goes"
 run "PATH=$fakes ./pairs $burnt"
 touch "$tree/crates/text/specs/More.antt"
@@ -141,13 +150,13 @@ forget
 printf '#!/bin/sh\n' >"$work/silent"
 chmod +x "$work/silent"
 run "FAKE_PROGRAM=$work/silent PATH=$fakes ./pairs $burnt 2>&1 | tail -n 1; exit \${PIPESTATUS[0]}"
-status 3; prints "pairs: the program gave no answer about $burnt$line"
+status 3; prints "pairs: the program gave no whole answer about $burnt$line"
 
 begin "a program that dies"
 forget
 printf '#!/bin/sh\necho pairs\nexit 9\n' >"$work/silent"
 run "FAKE_PROGRAM=$work/silent PATH=$fakes ./pairs $burnt 2>&1 | tail -n 1; exit \${PIPESTATUS[0]}"
-status 3; prints "pairs: the program gave no answer about $burnt$line"
+status 3; prints "pairs: the program gave no whole answer about $burnt$line"
 
 begin "a program that gives no answer, half of one and a whole one"
 forget
@@ -167,8 +176,12 @@ for answer in silent half whole; do echo "$answer" >"$tree/$answer"; done
 run "FAKE_PROGRAM=$work/silent PATH=$fakes ./pairs silent half whole"
 status 3
 prints "half${line}pairs${tab}2${tab}rounds${tab}1${tab}exact${line}0${tab}1${line}whole${line}pairs${tab}1${tab}rounds${tab}1${tab}exact${line}0${tab}1$line"
-tells_of "no answer about silent"; tells_of "no answer about half"
-! grep -q whole "$err" || fault "tells of the whole answer"
+tells_of "no whole answer about silent"; tells_of "no whole answer about half"
+! grep -q "about whole" "$err" || fault "tells of the whole answer"
+
+begin "half an answer about a single sheet"
+run "FAKE_PROGRAM=$work/silent PATH=$fakes ./pairs half"
+status 3; prints ""; tells_of "no whole answer about half"
 
 begin "what explains is built once, when it is needed"
 forget
@@ -199,3 +212,5 @@ absent "$tree/c.html"
 begin "what explains does not build"
 run "FAKE_VIEW= PATH=$fakes ./pairs $bad"
 status 1; prints "$refused"; tells_of "its log is $tree/target/pairs-view.log"
+
+parts=$((parts + 1))

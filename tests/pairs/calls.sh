@@ -60,11 +60,11 @@ status 1; prints "$bad$line$refused$burnt$line$listing"; tells "$(words "$bad")$
 
 begin "a file that is missing"
 run "./pairs nothing.sheet"
-status 2; prints ""; tells "pairs: cannot read nothing.sheet$line"
+status 2; prints ""; tells "pairs: there is no file nothing.sheet$line"
 
 begin "a file that is missing beside others"
 run "./pairs $bad nothing.sheet $burnt"
-status 2; prints "$bad$line$refused$burnt$line$listing"; tells_of "pairs: cannot read nothing.sheet"
+status 2; prints "$bad$line$refused$burnt$line$listing"; tells_of "pairs: there is no file nothing.sheet"
 
 # A folder of sheets, with names that sort by their bytes, and with much that is no sheet.
 folder="$tree/a folder"
@@ -192,6 +192,34 @@ run "{ sleep 0.1; ./pairs $bad 2>&1 >'$work/printed'; echo \$? >'$work/status'; 
 status=$(cat "$work/status")
 status 1; same "$work/printed" prints < <(printf %s "$refused")
 
+# Files that are there, with leave to read them, and cannot be opened or read.
+python3 -c 'import socket, sys; socket.socket(socket.AF_UNIX).bind(sys.argv[1])' "$tree/s.sheet" 2>/dev/null
+for odd in s.sheet /proc/1/mem; do
+    (cd "$tree" && [ -r "$odd" ] && ! { : <"$odd"; } 2>/dev/null) || continue
+    for words in "$odd" "$odd $burnt" "--page odd.html $odd"; do
+        begin "not to be opened: pairs $words"
+        run "./pairs $words"
+        status 2; tells_of "cannot read $odd"; absent "$tree/odd.html"
+    done
+done
+rm -f "$tree/s.sheet"
+
+begin "a link that leads nowhere, in a folder"
+mkdir "$tree/links"
+ln -s nowhere "$tree/links/a.sheet"
+cp "$tree/$burnt" "$tree/links/b.sheet"
+run "./pairs links"
+status 2; prints "links/b.sheet$line$listing"; tells "pairs: there is no file links/a.sheet$line"
+
+begin "a name that would do something to a terminal"
+run "./pairs $'no\e[31m.sheet'"
+status 2; tells "pairs: there is no file no?[31m.sheet$line"
+
+begin "a temporary folder with a tab in its name"
+mkdir "$work/t${tab}x"
+run "TMPDIR='$work/t${tab}x' ./pairs - <$burnt"
+status 3; prints ""; tells_of "has a tab or a newline in its name"
+
 begin "no room for temporary files"
 run "TMPDIR=$work/nowhere ./pairs - <$burnt"
 status 3; prints ""; tells_of "pairs: cannot make a temporary folder"
@@ -202,7 +230,15 @@ if [ "$(id -u)" = 0 ] && command -v setpriv >/dev/null; then
     cp "$tree/$burnt" "$tree/private.sheet"
     chmod 600 "$tree/private.sheet"
     nobody='setpriv --reuid=65534 --regid=65534 --clear-groups'
+    mkdir "$tree/closed"
+    cp "$tree/$burnt" "$tree/closed/"
+    chmod 700 "$tree/closed"
+    begin "a folder that may not be read"
+    run "$nobody ./pairs closed"
+    status 2; prints ""; tells "pairs: cannot read closed$line"
     begin "a file that may not be read"
     run "$nobody ./pairs private.sheet $burnt"
     status 2; prints "$burnt$line$listing"; tells "pairs: cannot read private.sheet$line"
 fi
+
+parts=$((parts + 1))

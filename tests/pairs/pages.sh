@@ -16,6 +16,21 @@ run "./pairs --page r.html $bad"
 status 1; prints "$refused"; tells "$(words "$bad")${line}pairs: r.html is not written$line"
 absent "$tree/r.html"
 
+begin "a page of a refused sheet, where there is one already"
+run "./pairs --page p.html $bad"
+status 1; prints "$refused"; tells_of "pairs: p.html is not written; what is there is older"
+
+cp "$tree/$burnt" "$tree/mine.sheet"
+cp "$tree/$burnt" "$tree/mine"
+ln -s mine "$tree/mine.html"
+for words in "mine.sheet $burnt" "mine.sheet mine.sheet" "new.sheet $burnt" "mine mine" "mine.html mine"; do
+    begin "no page over a sheet: $words"
+    run "./pairs --page $words"
+    status 2; prints ""; tells_of "a page is not written over a sheet"
+    cmp -s "$tree/$burnt" "$tree/mine.sheet" && cmp -s "$tree/$burnt" "$tree/mine" || fault "a sheet is lost"
+    absent "$tree/new.sheet"
+done
+
 begin "a page where there is one already, behind a link"
 echo old >"$tree/old.html"
 ln -s old.html "$tree/link.html"
@@ -33,9 +48,11 @@ done
 
 begin "a page of a sheet that is missing"
 run "./pairs --page m.html nothing.sheet"
-status 2; prints ""; tells_of "cannot read nothing.sheet"
+status 2; prints ""; tells_of "there is no file nothing.sheet"
 absent "$tree/m.html"
 
 begin "no half pages are left"
 run "find . -name '*.part'"
 prints ""
+
+parts=$((parts + 1))

@@ -44,7 +44,8 @@ s: refused, a row that is used more than once (6), row 0
   line 5, procedure 1:  P 0
                           ^
   A row is used once: as a child of one later row, or as the root of one procedure.
-  Give each other user a copy of the row and of the rows below it.
+  If one of them should name another row, for instance a wait around this one, mend its number.
+  Else give it a copy of the row and of the rows that it is built of, or make the row a procedure and call it.
 END
 refusal 'R\tskip\t0\t0\nR\tstep\t3\t0\nP\t0\n' "7${tab}1" <<'END'
 s: refused, a row that is not used (7), row 1
@@ -55,7 +56,7 @@ s: refused, a row that is not used (7), row 1
 END
 refusal "$(printf 'x%.0s' {1..70000})" "11${tab}0" <<'END'
 s: refused, a sheet that is too long (11)
-  The sheet has 70,000 bytes. A sheet has at most 65,536.
+  The sheet has 70,000 bytes. A sheet has at most 65,536. Is it the right file?
 END
 refusal 'R\tskip\t0\t0\nR\tstep 5\t0\nP\t1\n' "12${tab}1" <<'END'
 s: refused, a malformed line (12), line 1 counted from 0, line 2 in an editor
@@ -83,3 +84,5 @@ s: refused, a row or procedure too many (13), line 1024 counted from 0, line 102
               ^
   1,024 rows stand before this one. A recipe has at most 1,024 rows.
 END
+
+parts=$((parts + 1))

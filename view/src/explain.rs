@@ -271,6 +271,10 @@ fn users(sheet: &Sheet, used: usize) -> (String, usize) {
     (text, uses)
 }
 
+const MEND_A_NUMBER: &str =
+    "If one of them should name another row, for instance a wait around this one, mend its number.";
+const GIVE_A_COPY: &str =
+    "Else give it a copy of the row and of the rows that it is built of, or make the row a procedure and call it.";
 const ONE_USER: &str =
     "A row is used once: as a child of one later row, or as the root of one procedure.";
 
@@ -282,8 +286,7 @@ fn used_again(sheet: &Sheet, place: usize) -> Option<String> {
     }
     let row = shown_row(sheet, place, &[]);
     let said = indented(&format!("is used {uses} times:"));
-    let rule = indented(ONE_USER)
-        + &indented("Give each other user a copy of the row and of the rows below it.");
+    let rule = indented(ONE_USER) + &indented(MEND_A_NUMBER) + &indented(GIVE_A_COPY);
     Some(row + &said + &users + &rule)
 }
 
@@ -304,7 +307,7 @@ fn too_long(size: u64) -> Option<String> {
     // Of a sheet that is no regular file one byte too many is kept, and its size is not known.
     let or_more = if size == CEILING + 1 { " or more" } else { "" };
     Some(indented(&format!(
-        "The sheet has {} bytes{or_more}. A sheet has at most 65,536.",
+        "The sheet has {} bytes{or_more}. A sheet has at most 65,536. Is it the right file?",
         grouped(size)
     )))
 }

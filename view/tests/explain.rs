@@ -251,6 +251,12 @@ fn malformed_each_cause() {
         (b" R\tskip\t0\t0\n", r" R\tskip\t0\t0", "^", &before),
         (b"\tR\tskip\t0\t0\n", r"\tR\tskip\t0\t0", "^^", &before),
         (
+            b"\xFF\xFER\0\t\0\n\0",
+            r"\xFF\xFER\x00\t\x00",
+            "^^^^^^^^",
+            "The file is saved as UTF-16. Save it as plain text, UTF-8 without a byte order mark.",
+        ),
+        (
             b"\xEF\xBB\xBFP\t0\n",
             r"\xEF\xBB\xBFP\t0",
             "^^^^^^^^^^^^",
@@ -362,19 +368,19 @@ fn malformed_each_cause() {
             b"R\tstep\tfive\t0\n",
             r"R\tstep\tfive\t0",
             "         ^^^^",
-            "A number has digits alone: x.",
+            "A number, x, stands here, and a number has digits alone.",
         ),
         (
             b"R\tstep\t-1\t0\n",
             r"R\tstep\t-1\t0",
             "         ^^",
-            "A number has digits alone: x.",
+            "A number, x, stands here, and a number has digits alone.",
         ),
         (
             b"R\tstep\t5a\t0\n",
             r"R\tstep\t5a\t0",
             "          ^",
-            "A number has digits alone: x.",
+            "A number, x, stands here, and a number has digits alone.",
         ),
         (b"R\tstep\t5\n", r"R\tstep\t5", "          ^", &y_missing),
         (
@@ -413,13 +419,13 @@ fn malformed_each_cause() {
             b"R\tstep\t5\tx\n",
             r"R\tstep\t5\tx",
             "            ^",
-            "A number has digits alone: y.",
+            "A number, y, stands here, and a number has digits alone.",
         ),
         (
             b"R\tstep\t5\t0x\n",
             r"R\tstep\t5\t0x",
             "             ^",
-            "A number has digits alone: y.",
+            "A number, y, stands here, and a number has digits alone.",
         ),
         (
             b"R\tstep\t5\t0 \n",
@@ -462,7 +468,7 @@ fn malformed_each_cause() {
             b"P\tmain\n",
             r"P\tmain",
             "   ^^^^",
-            "A number has digits alone: the root.",
+            "A number, the root, stands here, and a number has digits alone.",
         ),
         (
             b"P\t01\n",
@@ -609,7 +615,8 @@ fn users() {
          \x20 line 8, procedure 1:  P 0\n\
          \x20                         ^\n\
          \x20 A row is used once: as a child of one later row, or as the root of one procedure.\n\
-         \x20 Give each other user a copy of the row and of the rows below it.\n"
+         \x20 If one of them should name another row, for instance a wait around this one, mend its number.\n\
+         \x20 Else give it a copy of the row and of the rows that it is built of, or make the row a procedure and call it.\n"
     );
     assert_eq!(body(sheet, 6, 1), CHANGED);
     assert_eq!(
@@ -626,7 +633,7 @@ fn users() {
 fn too_long() {
     assert_eq!(
         explained(&[b'x'; 65_537], 11, 0),
-        "s: refused, a sheet that is too long (11)\n  The sheet has 65,537 bytes or more. A sheet has at most 65,536.\n"
+        "s: refused, a sheet that is too long (11)\n  The sheet has 65,537 bytes or more. A sheet has at most 65,536. Is it the right file?\n"
     );
     assert!(body(&vec![b'x'; 1_234_567], 11, 0).contains("1,234,567 bytes."));
     assert_eq!(body(&[b'x'; 65_536], 11, 0), CHANGED);

@@ -66,6 +66,12 @@ fn unmarked(line: &[u8]) -> Read<()> {
             format!("A byte order mark stands here. {DUE} Save the sheet without the mark."),
         );
     }
+    if line.starts_with(b"\xFF\xFE") || line.starts_with(b"\xFE\xFF") {
+        return fault(
+            0..2,
+            "The file is saved as UTF-16. Save it as plain text, UTF-8 without a byte order mark.",
+        );
+    }
     if line[0] == b'\r' {
         return returned(line, 0);
     }
@@ -140,7 +146,7 @@ fn number(line: &[u8], at: usize, what: &str) -> Read<usize> {
         Some(b'\r') if digits.is_empty() => returned(line, at),
         Some(&byte) if !parts(byte) => fault(
             end..word(line, end),
-            format!("A number has digits alone: {what}."),
+            format!("A number, {what}, stands here, and a number has digits alone."),
         ),
         _ => Ok(end),
     }
