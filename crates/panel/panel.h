@@ -107,8 +107,10 @@ typedef struct bushkalote_row {
 /*
  * Judges a recipe and works out which labels may run in parallel.
  * Refuses with 1 to 7. On success the value is the number of rounds, and bit j
- * of matrix[i] is 1 exactly when labels i and j may run in parallel, for the
- * first 64 words; words beyond are untouched. The recipe is never written.
+ * of matrix[i] is 1 exactly when labels i and j are a pair, for the first 64
+ * words; words beyond are untouched. No pair that a run shows is missing; where
+ * a procedure can reach itself by calls ("wide" on the listing), there may be
+ * pairs that no run shows. The recipe is never written.
  */
 uint64_t bushkalote_analyse(
     const uint8_t *kinds, size_t kinds_len,

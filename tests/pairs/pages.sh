@@ -39,7 +39,14 @@ status 0
 [ -L "$tree/link.html" ] || fault "the link is replaced"
 grep -qF "$burnt" "$tree/old.html" || fault "the page is not where the link leads"
 
-for place in nowhere/p.html empty /dev/null; do
+begin "a page written again keeps its leave"
+chmod 640 "$tree/old.html"
+run "./pairs --page old.html $burnt"
+status 0
+[ "$(stat -c %a "$tree/old.html")" = 640 ] || fault "its mode is $(stat -c %a "$tree/old.html")"
+
+ln -s nothing.html "$tree/dangling.html"
+for place in nowhere/p.html empty /dev/null dangling.html; do
     begin "no page can be written to $place"
     run "./pairs --page $place $burnt"
     status 3; prints ""; tells_of "cannot write $place"

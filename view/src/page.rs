@@ -138,7 +138,7 @@ fn footer() -> &'static str {
 "##
 }
 
-/// A text from outside as HTML. Characters that would not show, or would turn the text round, are
+/// A text from outside as HTML. Control characters, and those that would turn the text round, are
 /// spelled out.
 fn escaped(text: &str) -> String {
     let mut html = String::new();
