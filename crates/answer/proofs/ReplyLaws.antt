@@ -6,7 +6,7 @@ use Prim.Native.Nat.{ℕ, _≤_, _<_}
 use lib.ListN.{length}
 use Rattle.numbers.specs.General.{laid}
 use Rattle.numbers.specs.Sizes.{Size, matrixWords}
-use Rattle.numbers.specs.declared.Refusal.the-variants.{LongListing}
+use Rattle.numbers.specs.declared.Refusal.the-variants.{ShortBytes}
 use Rattle.recipe.specs.Rules.{judged, judgedWith, admitted}
 use Rattle.recipe.specs.Statements.{programOf}
 use Rattle.recipe.specs.Tables.{Table}
@@ -21,7 +21,7 @@ use Rattle.listing.specs.declared.Listed.the-variants as reply
 use Rattle.listing.proofs.ReplyLaws.{too-long, fits}
 use Rattle.answer.specs.Answer.{answerBy, answerToTable, Answered}
 
-pub no-room : (text old : List ℕ) → length old < length text → Answered text old (reply.Refused LongListing) old
+pub no-room : (text old : List ℕ) → length old < length text → Answered text old (reply.Refused ShortBytes) old
 no-room text old h = record { said = too-long text (length old) h; held = refl }
 
 pub with-room :

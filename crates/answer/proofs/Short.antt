@@ -43,7 +43,9 @@ number-short (why.Unused row) = lit< tt
 number-short why.LongSheet = lit< tt
 number-short (why.WrongForm line) = lit< tt
 number-short (why.NoRoom line) = lit< tt
-number-short why.LongListing = lit< tt
+number-short why.ShortBytes = lit< tt
+number-short (why.LongOperand row) = lit< tt
+number-short (why.LongRoot proc) = lit< tt
 
 -- Every place that a refusal of ours names lies within this.
 abbrev placeCeiling : ℕ

@@ -40,7 +40,7 @@ fn refuse(bytes: &mut [u8], refusal: Refusal) -> Listed
     let place = refusal.place() as usize;
     let needed = refusal_length(number, place);
     if bytes.len() < needed {
-        return Listed::Refused(Refusal::LongListing);
+        return Listed::Refused(Refusal::ShortBytes);
     }
     put_refusal(bytes, number, place);
     Listed::Length(needed)

@@ -11,7 +11,7 @@ use lib.ListN.{length, drop-of-length-le}
 use Rattle.numbers.specs.General.{laid}
 use Rattle.numbers.specs.Sizes.{Size, matrixWords}
 use Rattle.numbers.specs.declared.Refusal.{Refusal}
-use Rattle.numbers.specs.declared.Refusal.the-variants.{LongListing}
+use Rattle.numbers.specs.declared.Refusal.the-variants.{ShortBytes}
 use Rattle.calculus.specs.Syntax.{Program}
 use Rattle.recipe.specs.Rules.{admitted, judgedWith}
 use Rattle.recipe.specs.Statements.{programOf}
@@ -36,15 +36,15 @@ use Rattle.listing.specs.declared.Listed.the-variants as reply
 
 -- ---- a text and room for it, and what a refusal leaves
 
-pub too-long : (text : List ℕ) (room : ℕ) → room < length text → reply.Refused LongListing ≡ fitted text room
+pub too-long : (text : List ℕ) (room : ℕ) → room < length text → reply.Refused ShortBytes ≡ fitted text room
 unfolding fitted
 too-long text room h =
-    sym (ap (λ (b : Bool). cond b (reply.Length (length text)) (reply.Refused LongListing)) (lt-leb (length text) room h))
+    sym (ap (λ (b : Bool). cond b (reply.Length (length text)) (reply.Refused ShortBytes)) (lt-leb (length text) room h))
 
 pub fits : (text : List ℕ) (room : ℕ) → length text ≤ room → reply.Length (length text) ≡ fitted text room
 unfolding fitted
 fits text room h =
-    sym (ap (λ (b : Bool). cond b (reply.Length (length text)) (reply.Refused LongListing)) (le-leb (length text) room h))
+    sym (ap (λ (b : Bool). cond b (reply.Length (length text)) (reply.Refused ShortBytes)) (le-leb (length text) room h))
 
 pub unchanged : (new old : List ℕ) {x : Listed} {r : Refusal} → x ≡ reply.Refused r → heldAfter new old x ≡ old
 unchanged new old e = ap (heldAfter new old) e

@@ -13,7 +13,7 @@ use lib.ListN.{length, length-append}
 use Rattle.numbers.specs.General.{oneIf, sumBelow, laid}
 use Rattle.numbers.specs.Sizes.{Size, ours, labelCeiling}
 use Rattle.numbers.specs.declared.Refusal.{Refusal}
-use Rattle.numbers.specs.declared.Refusal.the-variants.{LongListing}
+use Rattle.numbers.specs.declared.Refusal.the-variants.{ShortBytes}
 use Rattle.numbers.proofs.LowestLaws.{lowest-within}
 use Rattle.labels.specs.Sets.{member}
 use Rattle.matrix.specs.Matrix.{Pair, partners, pairsAtOrAbove}
@@ -126,7 +126,7 @@ unfolding fitted
 fitted-length text room n e = go (leb (length text) room) refl e
   where
     go :
-        (b : Bool) → leb (length text) room ≡ b → cond b (reply.Length (length text)) (reply.Refused LongListing) ≡ reply.Length n
+        (b : Bool) → leb (length text) room ≡ b → cond b (reply.Length (length text)) (reply.Refused ShortBytes) ≡ reply.Length n
         → (n ≡ length text) × (n ≤ room)
     go true f g = let exact : n ≡ length text = cc in (exact, omega (arith, leb-true (length text) room f))
     go false f g = let z : _≡_ {A = ℕ} 0 1 = cc in absurd (omega arith)

@@ -6,7 +6,7 @@ use lib.Dec.{leb}
 use lib.ListN.{length}
 use Rattle.numbers.specs.General.{laid}
 use Rattle.numbers.specs.Sizes.{Size}
-use Rattle.numbers.specs.declared.Refusal.the-variants.{LongListing}
+use Rattle.numbers.specs.declared.Refusal.the-variants.{ShortBytes}
 use Rattle.calculus.specs.Syntax.{Program}
 use Rattle.recipe.specs.Rules.{judgedWith}
 use Rattle.recipe.specs.Statements.{programOf}
@@ -25,7 +25,7 @@ listingOf z p = listing (z .words) (mainPairs (z .words) p) (rounds (z .words) p
 
 -- The reply to a text and room for so many bytes: the text's length, or the refusal of a text that does not fit.
 unfoldable pub fitted : List ℕ → ℕ → Listed
-fitted text room = cond (leb (length text) room) (reply.Length (length text)) (reply.Refused LongListing)
+fitted text room = cond (leb (length text) room) (reply.Length (length text)) (reply.Refused ShortBytes)
 
 -- The reply to an admitted table goes by the room, and any other table is refused as the judge refuses it.
 abbrev pub listedAs : Size → Program → ℕ → Judged → Listed

@@ -72,7 +72,7 @@ fn hand_over(matrix: &mut [u64], bytes: &mut [u8], pairs: &[u64], rounds: u32, w
     let count = matrix::count(pairs);
     let needed = listing_length(pairs, count, rounds, wide);
     if bytes.len() < needed {
-        return Listed::Refused(Refusal::LongListing);
+        return Listed::Refused(Refusal::ShortBytes);
     }
     put_listing(bytes, pairs, count, rounds, wide);
     matrix::copy(matrix, pairs);

@@ -1,6 +1,9 @@
 // The lowest room: row, procedure and line numbers kept apart, the ceilings by size, the numbered refusals, and definitions of general use.
 ghost use mathlib.Core.Path.{_≡_};
 ghost use Prim.Native.Nat.{min};
+ghost use lib.Dec.{ltb};
+ghost use lib.ListN.{length, getD};
+ghost use Rattle.numbers.specs.General.{lowest};
 ghost use Rattle.numbers.specs.Refusals.{refusalNumber, refusalPlace};
 
 // The number of a row. It is no procedure number and no label.
@@ -35,7 +38,7 @@ pub const MATRIX_WORDS: usize = 64;
 
 // Every reply that refuses, with the place that it names.
 pub enum Refusal {
-    // No rows or procedures, too many of them, or slices that differ in length.
+    // No rows or procedures where there must be some, too many of them, or slices that differ in length.
     Sizes,
     // The lent matrix has too few words.
     ShortMatrix,
@@ -55,8 +58,12 @@ pub enum Refusal {
     WrongForm(LineNumber),
     // The line is one row or procedure more than there is room for.
     NoRoom(LineNumber),
-    // The listing does not fit the lent bytes.
-    LongListing,
+    // The lent bytes are too few for what is to stand there.
+    ShortBytes,
+    // An operand of the row is above what a field of a sheet can hold.
+    LongOperand(RowNumber),
+    // The procedure's root is above it.
+    LongRoot(ProcNumber),
 }
 
 impl Refusal {
@@ -75,7 +82,9 @@ impl Refusal {
             Refusal::LongSheet => 11,
             Refusal::WrongForm(_) => 12,
             Refusal::NoRoom(_) => 13,
-            Refusal::LongListing => 14,
+            Refusal::ShortBytes => 14,
+            Refusal::LongOperand(_) => 15,
+            Refusal::LongRoot(_) => 15,
         }
     }
 
@@ -91,10 +100,12 @@ impl Refusal {
             Refusal::Unused(row) => row.0 as u32,
             Refusal::WrongForm(line) => line.0,
             Refusal::NoRoom(line) => line.0,
+            Refusal::LongOperand(row) => row.0 as u32,
+            Refusal::LongRoot(proc) => proc.0 as u32,
             Refusal::Sizes => 0,
             Refusal::ShortMatrix => 0,
             Refusal::LongSheet => 0,
-            Refusal::LongListing => 0,
+            Refusal::ShortBytes => 0,
         }
     }
 }
@@ -104,4 +115,32 @@ pub fn least(a: usize, b: usize) -> usize
     ensures { λ r. ⌜ r ≡ min a b ⌝ }
 {
     if a < b { a } else { b }
+}
+
+// The lowest place of a byte above this one, or the number of bytes where there is none.
+pub fn first_byte_above(bytes: &[u8], most: u8) -> usize
+    ensures { λ r. let s = now (bytes .entry) in ⌜ r ≡ lowest (length s) (λ i. ltb most (getD s i 0)) ⌝ }
+{
+    let mut i = 0;
+    while i < bytes.len() {
+        if bytes[i] > most {
+            return i;
+        }
+        i += 1;
+    }
+    i
+}
+
+// The lowest place of a number above this one, or how many numbers there are where there is none.
+pub fn first_above(numbers: &[u16], most: u16) -> usize
+    ensures { λ r. let s = now (numbers .entry) in ⌜ r ≡ lowest (length s) (λ i. ltb most (getD s i 0)) ⌝ }
+{
+    let mut i = 0;
+    while i < numbers.len() {
+        if numbers[i] > most {
+            return i;
+        }
+        i += 1;
+    }
+    i
 }

@@ -13,7 +13,7 @@ use Rattle.numbers.specs.Sizes.{ours, rowCeiling, sheetCeiling}
 use Rattle.numbers.specs.Refusals.{refusalNumber, refusalPlace}
 use Rattle.numbers.specs.declared.Refusal.{Refusal}
 use Rattle.numbers.specs.declared.Refusal.the-variants.{Sizes, ShortMatrix, UnknownKind, WrongOperand, NoSuchRow, UsedAgain, Unused, LongSheet, WrongForm}
-use Rattle.numbers.specs.declared.Refusal.the-variants.{NoRoom, LongListing}
+use Rattle.numbers.specs.declared.Refusal.the-variants.{NoRoom, ShortBytes}
 use Rattle.numbers.proofs.Refusals.{refusal-determined}
 use Rattle.recipe.specs.Offences.{Refuses}
 use Rattle.recipe.specs.Rules.{Rule, sizesFit, matrixRule, furtherRules, rulesWith, judgedWith}
@@ -63,7 +63,7 @@ numbered (Unused row) = omega arith
 numbered LongSheet = omega arith
 numbered (WrongForm line) = omega arith
 numbered (NoRoom line) = omega arith
-numbered LongListing = omega arith
+numbered ShortBytes = omega arith
 
 refusals-told : (r s : Refusal) → Near r → Near s → refusalCode r ≡ refusalCode s → r ≡ s
 refusals-told r s p q e =
@@ -126,7 +126,7 @@ unfolding listed fitted
 listed-fits t words room = go (judgedWith ours t words) refl
   where
     text : (b : Bool) → length (listingOf ours (programOf t)) ≤ longestListing
-        → FitsListed (cond b (listing.Length (length (listingOf ours (programOf t)))) (listing.Refused LongListing))
+        → FitsListed (cond b (listing.Length (length (listingOf ours (programOf t)))) (listing.Refused ShortBytes))
     text true h = omega (arith, h)
     text false h = omega arith
 

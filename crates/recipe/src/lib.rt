@@ -58,9 +58,9 @@ pub fn judge(kinds: &[u8], xs: &[u16], ys: &[u16], roots: &[u16]) -> Judged
     if !sizes_right(rows, xs.len(), ys.len(), procs) {
         return Judged::Refused(Refusal::Sizes);
     }
-    let unknown = rules::unknown_kind(kinds);
-    if (unknown.0 as usize) < rows {
-        return Judged::Refused(Refusal::UnknownKind(unknown));
+    let unknown = numbers::first_byte_above(kinds, 6);
+    if unknown < rows {
+        return Judged::Refused(Refusal::UnknownKind(RowNumber(unknown as u16)));
     }
     let wrong = rules::wrong_operand(kinds, xs, ys, roots);
     if (wrong.0 as usize) < rows {

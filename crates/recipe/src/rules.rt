@@ -1,4 +1,4 @@
-// The rules on kinds, operands and roots. Each search hands back the lowest place that breaks its rule, or the number
+// The rules on operands and roots. Each search hands back the lowest place that breaks its rule, or the number
 // of places where none does.
 use labels::Label;
 use numbers::ProcNumber;
@@ -9,22 +9,7 @@ ghost use lib.ListN.{length, getD};
 ghost use Rattle.numbers.specs.General.{lowest};
 ghost use Rattle.numbers.specs.Sizes.{ours, rowCeiling};
 ghost use Rattle.recipe.specs.Tables.{kindOf, tableOf, rows};
-ghost use Rattle.recipe.specs.Rules.{kindUnknown, operandsRight, operandWrong, rootMissing};
-
-// The lowest row whose kind is none of the seven.
-pub(crate) fn unknown_kind(kinds: &[u8]) -> RowNumber
-    requires { ⌜ length (now kinds) ≤ rowCeiling ⌝ }
-    ensures { λ r. let s = now (kinds .entry) in ⌜ r .0 ≡ lowest (length s) (λ i. kindUnknown (getD s i 0)) ⌝ }
-{
-    let mut i = 0;
-    while i < kinds.len() {
-        if kinds[i] > 6 {
-            return RowNumber(i as u16);
-        }
-        i += 1;
-    }
-    RowNumber(i as u16)
-}
+ghost use Rattle.recipe.specs.Rules.{operandsRight, operandWrong, rootMissing};
 
 // Whether the operands of a row are as its kind wants them. Each kind has its own rule.
 fn operands_right(kind: u8, x: u16, y: u16, row: RowNumber, procs: usize) -> bool

@@ -34,7 +34,7 @@ abbrev past-sizes : tie.Else1 → Table
 past-sizes c = at-sizes (c .before)
 
 abbrev past-kinds : tie.Else2 → Table
-past-kinds c = past-sizes (c .before .before .before)
+past-kinds c = past-sizes (c .before .before)
 
 abbrev past-operands : tie.Else3 → Table
 past-operands c = past-kinds (c .before .before .before)
@@ -63,7 +63,7 @@ sizes : (c : tie.Else1) → let t = past-sizes c in RightSizes ours (rows t) (le
 sizes c = let t = past-sizes c in sized ours (rows t) (length (t .xs)) (length (t .ys)) (procs t) (right-sizes c)
 
 sizes-of-roots : (c : tie.Else3) → let t = past-operands c in RightSizes ours (rows t) (length (t .xs)) (length (t .ys)) (procs t)
-sizes-of-roots c = let kinds : tie.Else2 = c .before .before .before in sizes (kinds .before .before .before)
+sizes-of-roots c = let kinds : tie.Else2 = c .before .before .before in sizes (kinds .before .before)
 
 sizes-still : (c : tie.Else4) → let t = past-roots c in RightSizes ours (rows t) (length (t .xs)) (length (t .ys)) (procs t)
 sizes-still c = sizes-of-roots (c .before .before .before)
@@ -73,7 +73,7 @@ to-kinds : (c : tie.Else1) → judged ours (past-sizes c) ≡ fromKinds ours (pa
 to-kinds c = sizes-passed ours (past-sizes c) (right-sizes c)
 
 to-operands : (c : tie.Else2) → judged ours (past-kinds c) ≡ fromOperands ours (past-kinds c)
-to-operands c = to-kinds (c .before .before .before) ∙ passed-on _ _ _ (c .before .before .unknown-kind .ensures) (c .if2 .left)
+to-operands c = to-kinds (c .before .before) ∙ passed-on _ _ _ (c .before .first-byte-above .ensures) (c .if2 .left)
 
 to-roots : (c : tie.Else3) → judged ours (past-operands c) ≡ fromRoots ours (past-operands c)
 to-roots c = to-operands (c .before .before .before) ∙ passed-on _ _ _ (c .before .before .wrong-operand .ensures) (c .if3 .left)
@@ -102,14 +102,14 @@ to-unused c = to-used-again (before-searches (c .before .before)) ∙ passed-on 
 returns : tie.Need-returns
 returns c = sym (sizes-refused ours (at-sizes (c .before)) (sym (c .before .sizes-right .ensures) ∙ not-true _ (c .if1 .taken)))
 
-unknown-kind-requires : tie.Need-unknown-kind-requires
-unknown-kind-requires c κs = sizes c .few-rows
+cast-t18 : tie.Need-cast-t18
+cast-t18 c = omega (arith, sizes (c .before .before) .few-rows, c .if2 .taken)
 
 returns-2 : tie.Need-returns-2
-returns-2 c = sym (to-kinds (c .before .before .before) ∙ refused-at _ _ _ (c .before .before .unknown-kind .ensures) (c .if2 .taken))
+returns-2 c = sym (to-kinds (c .before .before) ∙ refused-at _ _ _ (c .before .first-byte-above .ensures) (c .if2 .taken))
 
 wrong-operand-requires : tie.Need-wrong-operand-requires
-wrong-operand-requires c κs = let s = sizes (c .before .before .before) in (s .few-rows, (s .xs-match, s .ys-match))
+wrong-operand-requires c κs = let s = sizes (c .before .before) in (s .few-rows, (s .xs-match, s .ys-match))
 
 returns-3 : tie.Need-returns-3
 returns-3 c = sym (to-operands (c .before .before .before) ∙ refused-at _ _ _ (c .before .before .wrong-operand .ensures) (c .if3 .taken))
@@ -157,7 +157,7 @@ pub judge-spec : {M : Type 1} → statement M
 judge-spec =
     tie.close
     (tie.spec
-    (λ c κs. tt) returns unknown-kind-requires (λ c. omega arith) returns-2 wrong-operand-requires
+    (λ c κs. tt) returns (λ c κs. tt) cast-t18 returns-2 wrong-operand-requires
     (λ c. omega arith) returns-3 missing-row-requires (λ c. omega arith) returns-4 count-children-requires
     count-roots-requires first-with-requires (λ c. omega arith) returns-5 first-with-requires-2 (λ c. omega arith)
     returns-6 returns-7)

@@ -1,19 +1,19 @@
--- `recipe::rules::unknown_kind` meets its contract: the search passes the kinds that are known, and stops at the first that is not.
+-- `first_above` meets its contract: the search passes the numbers that are not above the given one, and stops at the first that is.
 -- Assumes nothing.
 use Prim.Native.Nat.{_-_}
+use lib.Dec.{ltb}
 use lib.ListN.{length, getD}
 use native.Mathlib.Omega.{arith}
 use borrow.Author.Tests.{lt-ltb, le-ltb}
-use Rattle.recipe.specs.Rules.{kindUnknown}
 use Rattle.numbers.proofs.LowestLaws.{Passed, passed-none, passed-more, passed-found, passed-all}
-use Rattle.recipe.proofs.rules.unknown_kind.Statement.{statement}
-use Rattle.recipe.proofs.rules.unknown_kind.Tie as tie
+use Rattle.numbers.proofs.first_above.Statement.{statement}
+use Rattle.numbers.proofs.first_above.Tie as tie
 
 abbrev Inv-loop : tie.InvT-loop
-Inv-loop kinds i₀ i = Passed (length kinds) (λ k. kindUnknown (getD kinds k 0)) i
+Inv-loop numbers most i₀ i = Passed (length numbers) (λ k. ltb most (getD numbers k 0)) i
 
 abbrev μ-loop : tie.MeasureT-loop
-μ-loop kinds i₀ i = length kinds - i
+μ-loop numbers most i₀ i = length numbers - i
 
 loop-holds : tie.Need-loop-holds Inv-loop μ-loop
 loop-holds c = passed-none _ _
@@ -27,9 +27,9 @@ loop-again c = passed-more _ _ _ (c .before .before .loop-test .taken) (c .befor
 returns-2 : tie.Need-returns-2 Inv-loop μ-loop
 returns-2 c = passed-all _ _ _ (c .before .loop .inv) (c .loop-test .left)
 
-pub unknown-kind-spec : {M : Type 1} → statement M
-unknown-kind-spec =
+pub first-above-spec : {M : Type 1} → statement M
+first-above-spec =
     tie.close
     (tie.spec
     Inv-loop μ-loop loop-holds (λ c. omega arith) (λ c. omega arith) returns (λ c. omega arith) (λ c. omega arith)
-    loop-again (λ c. omega arith) returns-2)
+    loop-again returns-2)

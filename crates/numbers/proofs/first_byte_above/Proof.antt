@@ -1,0 +1,35 @@
+-- `first_byte_above` meets its contract: the search passes the bytes that are not above the given one, and stops at the first that is.
+-- Assumes nothing.
+use Prim.Native.Nat.{_-_}
+use lib.Dec.{ltb}
+use lib.ListN.{length, getD}
+use native.Mathlib.Omega.{arith}
+use borrow.Author.Tests.{lt-ltb, le-ltb}
+use Rattle.numbers.proofs.LowestLaws.{Passed, passed-none, passed-more, passed-found, passed-all}
+use Rattle.numbers.proofs.first_byte_above.Statement.{statement}
+use Rattle.numbers.proofs.first_byte_above.Tie as tie
+
+abbrev Inv-loop : tie.InvT-loop
+Inv-loop bytes most i₀ i = Passed (length bytes) (λ k. ltb most (getD bytes k 0)) i
+
+abbrev μ-loop : tie.MeasureT-loop
+μ-loop bytes most i₀ i = length bytes - i
+
+loop-holds : tie.Need-loop-holds Inv-loop μ-loop
+loop-holds c = passed-none _ _
+
+returns : tie.Need-returns Inv-loop μ-loop
+returns c = passed-found _ _ _ (c .before .before .before .loop .inv) (lt-ltb _ _ (c .if1 .taken))
+
+loop-again : tie.Need-loop-again Inv-loop μ-loop
+loop-again c = passed-more _ _ _ (c .before .before .loop-test .taken) (c .before .before .before .loop .inv) (le-ltb _ _ (c .if1 .left))
+
+returns-2 : tie.Need-returns-2 Inv-loop μ-loop
+returns-2 c = passed-all _ _ _ (c .before .loop .inv) (c .loop-test .left)
+
+pub first-byte-above-spec : {M : Type 1} → statement M
+first-byte-above-spec =
+    tie.close
+    (tie.spec
+    Inv-loop μ-loop loop-holds (λ c. omega arith) returns (λ c. omega arith) (λ c. omega arith)
+    loop-again returns-2)

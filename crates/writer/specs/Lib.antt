@@ -1,0 +1,4 @@
+pub mod Sheets
+pub mod Rules
+pub mod Replies
+pub mod Inner
