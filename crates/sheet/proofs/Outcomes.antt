@@ -30,7 +30,7 @@ unfolding spell flatMap
 spell-nothing = refl
 
 -- One line more, before the bytes that are left.
-spelled-on : {A : Type 0} (f : A → List ℕ) (l : List A) (x : A) → flatMap f (l ++ (x ∷ [])) ≡ flatMap f l ++ f x
+pub spelled-on : {A : Type 0} (f : A → List ℕ) (l : List A) (x : A) → flatMap f (l ++ (x ∷ [])) ≡ flatMap f l ++ f x
 unfolding flatMap
 spelled-on f [] x = append-nil (f x)
 spelled-on f (y ∷ l) x = ap (_++_ (f y)) (spelled-on f l x) ∙ sym (append-assoc (f y) (flatMap f l) (f x))

@@ -1,0 +1,3 @@
+pub mod KeywordLaws
+pub mod LineLaws
+pub mod SheetLaws
