@@ -1,25 +1,21 @@
 -- The lines of the pairs, label by label: a pair's line is there if it is marked, and below its own label no label has a pair.
 -- Assumes nothing.
-use mathlib.Core.Path.{_≡_, refl, sym, ap, ap₂, _∙_}
+use mathlib.Core.Path.{_≡_, refl, ap, ap₂, _∙_}
 use mathlib.Core.Bool.{Bool, true, false, cond, _&&_}
 use mathlib.Core.List.{List, [], _∷_, _++_}
-use Prim.Native.Nat.{ℕ, zero, suc, _+_, _≤_, _<_}
-use native.Mathlib.Nat.{le-refl, mul-one}
-use native.Mathlib.Numerals.{add-one}
-use native.Mathlib.Omega.{arith}
+use Prim.Native.Nat.{ℕ, zero, suc, _≤_, _<_}
+use native.Mathlib.Nat.{mul-one}
 use borrow.Author.Tests.{le-leb, lt-leb}
 use lib.Dec.{eqb, leb}
-use lib.ListN.{length, getD, take, drop, length-append}
+use lib.ListN.{length, getD, take, drop}
 use lib.Seq.{drop-cons}
 use Rattle.numbers.specs.General.{inTurn, sumBelow}
 use Rattle.numbers.specs.Sizes.{ours}
 use Rattle.labels.specs.Sets.{member}
 use Rattle.matrix.specs.Matrix.{Pair, partners}
-use Rattle.numbers.proofs.InTurnLaws.{none-in-turn}
+use Rattle.numbers.proofs.InTurnLaws.{length-in-turn}
 use Rattle.listing.specs.Pairs.{pairAt, pairsOf}
 use Rattle.listing.specs.Listing.{pairLine, lines}
-use Rattle.text.specs.Inner.{Put}
-use Rattle.text.proofs.PutLaws.{put-nothing, put-behind, put-keeps}
 use Rattle.listing.proofs.LineLaws.{lines-append, lines-one}
 
 -- ---- one pair
@@ -39,77 +35,21 @@ no-line-of-unmarked s i j h e = ap lines (pair-by-tests s i j true false (le-leb
 pub no-pair-below : (s : List ℕ) (i j : ℕ) → j < i → pairAt s i j ≡ []
 no-pair-below s i j h = pair-by-tests s i j false (eqb (member s j) 1) (lt-leb i j h) refl
 
+pub no-line-below : (s : List ℕ) (i j : ℕ) → j < i → lines (pairAt s i j) ≡ []
+unfolding lines
+no-line-below s i j h = ap lines (no-pair-below s i j h)
+
 -- ---- lists of pairs in turn
 
 module _ (f : ℕ → List Pair) where
-  abbrev pub linesBelow : ℕ → List ℕ
-  linesBelow n = lines (inTurn n f)
-
-  pub lines-none : linesBelow 0 ≡ []
+  -- Their lines are the lines of each, in turn.
+  pub lines-in-turn : (n : ℕ) → lines (inTurn n f) ≡ inTurn n (λ k. lines (f k))
   unfolding lines inTurn
-  lines-none = refl
+  lines-in-turn zero = refl
+  lines-in-turn (suc n) = lines-append (inTurn n f) (f n) ∙ ap (λ (s : List ℕ). s ++ lines (f n)) (lines-in-turn n)
 
-  pub lines-more : (n : ℕ) → linesBelow (suc n) ≡ linesBelow n ++ lines (f n)
-  unfolding inTurn
-  lines-more n = lines-append (inTurn n f) (f n)
-
-  pub bytes-more : (n : ℕ) → length (linesBelow (suc n)) ≡ length (linesBelow n) + length (lines (f n))
-  bytes-more n = ap length (lines-more n) ∙ length-append (linesBelow n) (lines (f n))
-
-  pub bytes-in-turn : (n : ℕ) → length (linesBelow n) ≡ sumBelow n (λ k. length (lines (f k)))
-  unfolding sumBelow
-  bytes-in-turn zero = ap length lines-none
-  bytes-in-turn (suc n) = bytes-more n ∙ ap (λ (x : ℕ). x + length (lines (f n))) (bytes-in-turn n)
-
--- ---- a loop that writes the lines of f 0, f 1, .. up to and without f n
-
-pub record Writing (n : ℕ) (f : ℕ → List Pair) (old : List ℕ) (at : ℕ) (new : List ℕ) (next k : ℕ) : Type 0 where
-  pub passed : k ≤ n
-  pub put : Put old at (linesBelow f k) new next
-
-module _ {n : ℕ} {f : ℕ → List Pair} {old : List ℕ} {at : ℕ} where
-  pub begins : (k : ℕ) → k ≤ n → ((j : ℕ) → j < k → f j ≡ []) → Writing n f old at old at k
-  unfolding lines
-  begins k h e =
-      record {
-        passed = h;
-        put = rw (none-in-turn f k e) (put-nothing old at);
-      }
-
-  pub goes-on :
-      {new new' : List ℕ} {next next' k : ℕ} → Writing n f old at new next k → k < n → Put new next (lines (f k)) new' next'
-      → Writing n f old at new' next' (k + 1)
-  goes-on {new} {new'} {next} {next'} {k} w h p =
-      record { passed = omega arith; put = rw (add-one k, lines-more f k) (put-behind (w .put) p) }
-
-  pub keeps : {new : List ℕ} {next k : ℕ} → Writing n f old at new next k → length new ≡ length old
-  keeps w = put-keeps (w .put)
-
-  pub ends : {new : List ℕ} {next k : ℕ} → Writing n f old at new next k → n ≤ k → Put old at (linesBelow f n) new next
-  ends {new} {next} {k} w h = let done : k ≡ n = omega arith in rw done at (w .put)
-
--- ---- a loop that sums their lengths
-
-pub record Summing (n : ℕ) (f : ℕ → List Pair) (sum k : ℕ) : Type 0 where
-  pub passed : k ≤ n
-  pub total : sum ≡ length (linesBelow f k)
-
-module _ {n : ℕ} {f : ℕ → List Pair} where
-  pub sum-begins : (k : ℕ) → k ≤ n → ((j : ℕ) → j < k → f j ≡ []) → Summing n f 0 k
-  unfolding lines
-  sum-begins k h e = record { passed = h; total = ap (λ (x : List Pair). length (lines x)) (sym (none-in-turn f k e)) }
-
-  pub sum-goes-on :
-      {sum k b : ℕ} → Summing n f sum k → k < n → b ≡ length (lines (f k)) → Summing n f (sum + b) (k + 1)
-  sum-goes-on {sum} {k} {b} s h e =
-      record {
-        passed = omega arith;
-        total = ap₂ _+_ (s .total) e ∙ sym (ap (λ (x : ℕ). length (linesBelow f x)) (add-one k) ∙ bytes-more f k);
-      }
-
-  pub sum-ends : {sum k : ℕ} → Summing n f sum k → n ≤ k → sum ≡ length (linesBelow f n)
-  sum-ends {sum} {k} s h =
-      let done : k ≡ n = omega arith in s .total ∙ ap (λ (x : ℕ). length (linesBelow f x)) done
+  pub bytes-in-turn : (n : ℕ) → length (lines (inTurn n f)) ≡ sumBelow n (λ k. length (lines (f k)))
+  bytes-in-turn n = ap length (lines-in-turn n) ∙ length-in-turn (λ k. lines (f k)) n
 
 -- ---- one word a label
 

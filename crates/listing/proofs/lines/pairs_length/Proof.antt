@@ -6,12 +6,14 @@ use denote.Ref.{now}
 use lib.ListN.{length}
 use native.Mathlib.Omega.{arith}
 use Rattle.numbers.specs.Sizes.{ours, labelCeiling}
-use Rattle.listing.proofs.PairLaws.{Summing, sum-begins, sum-goes-on, sum-ends, rowOf, row-one}
+use Rattle.text.proofs.TurnLoops.{Summing, sum-begins, sum-goes-on, sum-ends}
+use Rattle.listing.specs.Listing.{lines}
+use Rattle.listing.proofs.PairLaws.{lines-in-turn, rowOf, row-one}
 use Rattle.listing.proofs.lines.pairs_length.Statement.{statement}
 use Rattle.listing.proofs.lines.pairs_length.Tie as tie
 
 abbrev Inv-loop : tie.InvT-loop
-Inv-loop matrix sum₀ i₀ sum i = Summing (labelCeiling (ours .words)) (rowOf matrix) sum i × (sum ≤ 42 * labelCeiling (ours .words) * i)
+Inv-loop matrix sum₀ i₀ sum i = Summing (labelCeiling (ours .words)) (λ j. lines (rowOf matrix j)) sum i × (sum ≤ 42 * labelCeiling (ours .words) * i)
 
 abbrev μ-loop : tie.MeasureT-loop
 μ-loop matrix sum₀ i₀ sum i = labelCeiling (ours .words) - i
@@ -30,7 +32,11 @@ loop-again c =
     (sum-goes-on (l .inv .0) h (c .row-length .ensures .0 ∙ ap length (sym (row-one (now (s .args .matrix)) (l .i) (omega arith)))), omega arith)
 
 returns : tie.Need-returns Inv-loop μ-loop
-returns c = (sum-ends (c .before .loop .inv .0) (c .loop-test .left), omega (arith, c .before .loop .inv .0 .passed))
+returns c =
+    let matrix = now (c .before .before .before .args .matrix) in (
+      sum-ends (c .before .loop .inv .0) (c .loop-test .left) ∙ sym (ap length (lines-in-turn (rowOf matrix) (labelCeiling (ours .words)))),
+      omega (arith, c .before .loop .inv .0 .passed),
+    )
 
 pub pairs-length-spec : {M : Type 1} → statement M
 pairs-length-spec =

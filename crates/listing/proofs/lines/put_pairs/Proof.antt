@@ -4,12 +4,14 @@ use Prim.Native.Nat.{_-_}
 use denote.Ref.{now}
 use native.Mathlib.Omega.{arith}
 use Rattle.numbers.specs.Sizes.{ours, labelCeiling}
-use Rattle.listing.proofs.PairLaws.{Writing, begins, goes-on, keeps, ends, rowOf, row-one}
+use Rattle.text.proofs.TurnLoops.{Writing, begins, goes-on, keeps, ends}
+use Rattle.listing.specs.Listing.{lines}
+use Rattle.listing.proofs.PairLaws.{lines-in-turn, rowOf, row-one}
 use Rattle.listing.proofs.lines.put_pairs.Statement.{statement}
 use Rattle.listing.proofs.lines.put_pairs.Tie as tie
 
 abbrev Inv-loop : tie.InvT-loop
-Inv-loop bytes₀ at matrix next₀ i₀ bytes next i = Writing (labelCeiling (ours .words)) (rowOf matrix) bytes₀ at bytes next i
+Inv-loop bytes₀ at matrix next₀ i₀ bytes next i = Writing (labelCeiling (ours .words)) (λ j. lines (rowOf matrix j)) bytes₀ at bytes next i
 
 abbrev μ-loop : tie.MeasureT-loop
 μ-loop bytes₀ at matrix next₀ i₀ bytes next i = labelCeiling (ours .words) - i
@@ -29,7 +31,9 @@ same-length : tie.Need-same-length Inv-loop μ-loop
 same-length c = keeps (c .before .loop .inv)
 
 returns : tie.Need-returns Inv-loop μ-loop
-returns c = ends (c .before .loop .inv) (c .loop-test .left)
+returns c =
+    let matrix = now (c .before .before .before .before .args .matrix) in
+    rw (lines-in-turn (rowOf matrix) (labelCeiling (ours .words))) (ends (c .before .loop .inv) (c .loop-test .left))
 
 pub put-pairs-spec : {M : Type 1} → statement M
 put-pairs-spec =
