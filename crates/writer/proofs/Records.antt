@@ -7,7 +7,7 @@ use lib.ListN.{length, getD, length-map}
 use Rattle.numbers.specs.General.{inTurn}
 use Rattle.numbers.proofs.InTurnLaws.{in-turn-alike, length-ones, map-ones, list-of-ones}
 use Rattle.recipe.specs.Records.{kindsOf, xsOf, ysOf, tableOfRows}
-use Rattle.recipe.specs.Tables.{Table, rows, kindAt, xAt, yAt}
+use Rattle.recipe.specs.Tables.{Table, rows, xAt, yAt}
 use Rattle.recipe.specs.declared.Row.{Row}
 use Rattle.table.specs.Inner.{blank}
 use Rattle.writer.specs.Sheets.{rowAt, recordsOf}
