@@ -1,6 +1,7 @@
--- Lists in turn: their length, what is in them, and that they are empty where each is. By recursion on their number.
+-- Lists in turn: their length, what is in them, that they are empty where each is, and lists of one in turn. By recursion on their number.
 -- Assumes nothing.
-use mathlib.Core.List.{List, [], _∷_, _++_, List·Memᴰ, List·Memᴰ·not-nil, List·Memᴰ·append-cases, Memᴰ·append-left, Memᴰ·append-right}
+use mathlib.Core.List.{List, [], _∷_, _++_, map, map-append}
+use mathlib.Core.List.{List·Memᴰ, List·Memᴰ·not-nil, List·Memᴰ·append-cases, Memᴰ·append-left, Memᴰ·append-right}
 use mathlib.Core.Logic.{⊎-elim}
 use mathlib.Core.Path.{_≡_, refl, sym, ap, ap₂, _∙_, subst}
 use Prim.Native.Nat.{ℕ, zero, suc, _+_, _≤_, _<_}
@@ -8,7 +9,7 @@ use native.Mathlib.Nat.{le-refl, not-suc-le-zero}
 use native.Mathlib.Decide.{decLt}
 use native.Mathlib.Omega.{arith}
 use lib.ListN.{length, getD, take, length-append}
-use lib.Seq.{take-suc, take-all}
+use lib.Seq.{take-suc, take-length}
 use Rattle.numbers.specs.General.{sumBelow, inTurn}
 
 -- an element stands in one of the lists
@@ -51,13 +52,31 @@ module _ {A : Type 0} (f : ℕ → List A) where
       by-order (no l) earlier =
           let last : k ≡ n = omega arith in Memᴰ·append-right (inTurn n f) (subst (λ (x : ℕ). List·Memᴰ a (f x)) last there)
 
--- The elements of a list in turn, each alone, are the list.
-module _ {A : Type 0} (l : List A) (d : A) where
-  firsts-in-turn : (k : ℕ) → k ≤ length l → inTurn k (λ i. getD l i d ∷ []) ≡ take k l
-  unfolding inTurn
-  firsts-in-turn zero h = refl
-  firsts-in-turn (suc k) h =
-      ap (λ (x : List A). x ++ (getD l k d ∷ [])) (firsts-in-turn k (omega arith)) ∙ sym (take-suc l k d h)
+-- lists that agree below n are the same in turn
+pub in-turn-alike : {A : Type 0} (n : ℕ) (f g : ℕ → List A) → ((k : ℕ) → k < n → f k ≡ g k) → inTurn n f ≡ inTurn n g
+unfolding inTurn
+in-turn-alike zero f g same = refl
+in-turn-alike (suc n) f g same = ap₂ _++_ (in-turn-alike n f g (λ k h. same k (omega arith))) (same n (le-refl (suc n)))
 
-  pub elements-in-turn : inTurn (length l) (λ i. getD l i d ∷ []) ≡ l
-  elements-in-turn = firsts-in-turn (length l) (le-refl (length l)) ∙ take-all (length l) l (le-refl (length l))
+-- lists of one element each
+module _ {A : Type 0} (f : ℕ → A) where
+  pub length-ones : (n : ℕ) → length (inTurn n (λ i. f i ∷ [])) ≡ n
+  unfolding inTurn
+  length-ones zero = refl
+  length-ones (suc n) = omega (arith, length-append (inTurn n (λ i. f i ∷ [])) (f n ∷ []), length-ones n)
+
+  pub map-ones : {B : Type 0} (g : A → B) (n : ℕ) → map g (inTurn n (λ i. f i ∷ [])) ≡ inTurn n (λ i. g (f i) ∷ [])
+  unfolding inTurn
+  map-ones g zero = refl
+  map-ones {B} g (suc n) =
+      map-append g (inTurn n (λ i. f i ∷ [])) (f n ∷ []) ∙ ap (λ (l : List B). l ++ (g (f n) ∷ [])) (map-ones g n)
+
+-- a list is its elements in turn
+module _ {A : Type 0} (l : List A) (d : A) where
+  first-ones : (n : ℕ) → n ≤ length l → inTurn n (λ i. getD l i d ∷ []) ≡ take n l
+  unfolding inTurn
+  first-ones zero h = refl
+  first-ones (suc n) h = ap (λ (s : List A). s ++ (getD l n d ∷ [])) (first-ones n (omega arith)) ∙ sym (take-suc l n d h)
+
+  pub list-of-ones : inTurn (length l) (λ i. getD l i d ∷ []) ≡ l
+  list-of-ones = first-ones (length l) (le-refl (length l)) ∙ take-length l

@@ -2,12 +2,13 @@
 -- Assumes nothing.
 use mathlib.Core.Bool.{Bool, true, false}
 use mathlib.Core.List.{List, [], _∷_}
+use mathlib.Core.Logic.{_⊎_, inl, inr}
 use mathlib.Core.Path.{_≡_, refl, sym, _∙_, subst}
 use Prim.Native.Nat.{ℕ}
 use native.Mathlib.Omega.{arith}
 use borrow.Author.Tests.{ltb-true, ltb-false}
 use lib.Dec.{ltb}
-use Rattle.numbers.specs.General.{lowest}
+use Rattle.numbers.specs.General.{lowest, First, Nowhere}
 use Rattle.numbers.specs.Sizes.{Size}
 use Rattle.numbers.specs.declared.Refusal.{Refusal}
 use Rattle.numbers.proofs.LowestLaws.{lowest-is, lowest-passes, lowest-none, none-below, none-at-all}
@@ -22,7 +23,7 @@ use Rattle.recipe.proofs.Judging.{refused-at, passed-on, passed-if-admi
 abbrev place : Rule → ℕ
 place r = lowest (r .places) (r .breaks)
 
-refuses-of : (rules : List Rule) (why : Refusal) → judgedBy rules ≡ Refused why → Refuses rules why
+pub refuses-of : (rules : List Rule) (why : Refusal) → judgedBy rules ≡ Refused why → Refuses rules why
 refuses-of [] why h = let n : _≡_ {A = ℕ} 0 1 = cc (all-passed) in absurd (omega arith)
 refuses-of (r ∷ more) why h = go (ltb (place r) (r .places)) refl (refuses-of more why)
   where
@@ -37,22 +38,29 @@ refuses-of (r ∷ more) why h = go (ltb (place r) (r .places)) refl (refuses-of 
         let l = ltb-false (place r) (r .places) e in
         Refuses.later (none-at-all (r .places) (r .breaks) l) (rest (sym (passed-on r more (place r) refl l) ∙ h))
 
-of-refuses : {rules : List Rule} {why : Refusal} → Refuses rules why → judgedBy rules ≡ Refused why
+pub of-refuses : {rules : List Rule} {why : Refusal} → Refuses rules why → judgedBy rules ≡ Refused why
 of-refuses (Refuses.here {r = r} {more = more} {i = i} f) =
     refused-at r more i (lowest-is (r .places) (r .breaks) i (omega (arith, f .there)) (f .before) (λ _. f .passes)) (f .there)
 of-refuses (Refuses.later {r = r} {more = more} none rest) =
     passed-on r more (r .places) (lowest-none (r .places) (r .breaks) none) (omega arith) ∙ of-refuses rest
 
-keeps-of : (rules : List Rule) → judgedBy rules ≡ Admitted → KeepsRules rules
+pub keeps-of : (rules : List Rule) → judgedBy rules ≡ Admitted → KeepsRules rules
 keeps-of [] h = tt
 keeps-of (r ∷ more) h =
     let passed = passed-if-admitted r more h in
     (none-at-all (r .places) (r .breaks) (passed .0), keeps-of more (passed .1))
 
-of-keeps : (rules : List Rule) → KeepsRules rules → judgedBy rules ≡ Admitted
+pub of-keeps : (rules : List Rule) → KeepsRules rules → judgedBy rules ≡ Admitted
 of-keeps [] k = all-passed
 of-keeps (r ∷ more) k =
     passed-on r more (r .places) (lowest-none (r .places) (r .breaks) (k .0)) (omega arith) ∙ of-keeps more (k .1)
+
+-- What refuses is the first rule, at its lowest place, or a later rule, where the first is kept.
+pub refuses-by :
+    {r : Rule} {more : List Rule} {why : Refusal} → Refuses (r ∷ more) why
+    → ((i : ℕ) × First (r .places) (r .breaks) i × (r .refusal i ≡ why)) ⊎ (Nowhere (r .places) (r .breaks) × Refuses more why)
+refuses-by (Refuses.here {i = i} f) = inl (i, f, refl)
+refuses-by (Refuses.later none rest) = inr (none, rest)
 
 -- ---- of a table
 

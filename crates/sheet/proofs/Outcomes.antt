@@ -45,7 +45,7 @@ root-more :
 unfolding spell flatMap
 root-more rows roots root t = rw (spelled-on spelledRoot roots root) (simp append-assoc)
 
-every-more : {A : Type 0} (Q : A → Type 0) (l : List A) (x : A) → Every Q l → Q x → Every Q (l ++ (x ∷ []))
+pub every-more : {A : Type 0} (Q : A → Type 0) (l : List A) (x : A) → Every Q l → Q x → Every Q (l ++ (x ∷ []))
 every-more Q [] x a q = (q, tt)
 every-more Q (y ∷ l) x a q = (a .0, every-more Q l x (a .1) q)
 

@@ -5,7 +5,7 @@ use mathlib.Core.List.{List, [], _∷_, _++_, flatMap}
 use Prim.Native.Nat.{ℕ, zero, suc, _+_}
 use lib.ListN.{length, getD, length-append}
 use Rattle.numbers.specs.General.{inTurn}
-use Rattle.numbers.proofs.InTurnLaws.{one-more-in-turn, elements-in-turn}
+use Rattle.numbers.proofs.InTurnLaws.{one-more-in-turn, list-of-ones}
 use Rattle.recipe.specs.Tables.{Table, rows}
 use Rattle.sheet.specs.Form.{spelledRow, spelledRoot, spell}
 use Rattle.sheet.proofs.Outcomes.{spelled-on}
@@ -23,7 +23,7 @@ rows-in-turn t = lines-in-turn spelledRow (rowAt t) (rows t)
 
 pub roots-in-turn : (roots : List ℕ) → flatMap spelledRoot roots ≡ inTurn (length roots) (λ f. spelledRoot (getD roots f 0))
 roots-in-turn roots =
-    ap (flatMap spelledRoot) (sym (elements-in-turn roots 0)) ∙ lines-in-turn spelledRoot (λ f. getD roots f 0) (length roots)
+    ap (flatMap spelledRoot) (sym (list-of-ones roots 0)) ∙ lines-in-turn spelledRoot (λ f. getD roots f 0) (length roots)
 
 -- A sheet: the lines of the rows, then those of the roots.
 pub sheet-lines : (t : Table) → sheetOf t ≡ rowLines t ++ flatMap spelledRoot (t .roots)
