@@ -85,14 +85,15 @@ module _ (z : Size) (t : Table) where
       let past-kinds = passed-if-admitted (kindRule t) (operandRule t ∷ rootRule t ∷ []) (past-sizes .1) in
       let past-operands = passed-if-admitted (operandRule t) (rootRule t ∷ []) (past-kinds .1) in
       let past-roots = passed-if-admitted (rootRule t) [] (past-operands .1) in
+      let short-operands = none-at-all (rows t) (operandRule t .breaks) (past-operands .0) in
       let sizes = sized z _ _ _ _ (not-false sizesFit (none-at-all 1 (λ i. not sizesFit) (past-sizes .0) 0 (omega arith))) in
       record {
         few-rows = sizes .few-rows;
         few-procs = sizes .few-procs;
         xs-match = sizes .xs-match;
         ys-match = sizes .ys-match;
-        known-kinds = λ i l. ltb-false 6 (kindAt t i) (none-at-all _ (kindRule t .breaks) (past-kinds .0) i l);
-        short-xs = λ i l. ltb-false 9999 (xAt t i) (neither-first (tooLong (xAt t i)) (tooLong (yAt t i)) (none-at-all _ (operandRule t .breaks) (past-operands .0) i l));
-        short-ys = λ i l. ltb-false 9999 (yAt t i) (neither-second (tooLong (xAt t i)) (tooLong (yAt t i)) (none-at-all _ (operandRule t .breaks) (past-operands .0) i l));
-        short-roots = λ f l. ltb-false 9999 (rootAt t f) (none-at-all _ (rootRule t .breaks) (past-roots .0) f l);
+        known-kinds = λ i l. ltb-false 6 (kindAt t i) (none-at-all (rows t) (kindRule t .breaks) (past-kinds .0) i l);
+        short-xs = λ i l. ltb-false 9999 (xAt t i) (neither-first (tooLong (xAt t i)) (tooLong (yAt t i)) (short-operands i l));
+        short-ys = λ i l. ltb-false 9999 (yAt t i) (neither-second (tooLong (xAt t i)) (tooLong (yAt t i)) (short-operands i l));
+        short-roots = λ f l. ltb-false 9999 (rootAt t f) (none-at-all (procs t) (rootRule t .breaks) (past-roots .0) f l);
       }

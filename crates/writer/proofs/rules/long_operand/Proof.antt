@@ -1,6 +1,6 @@
 -- `long_operand` meets its contract: the lowest row at which one of two tests passes is the lesser of their lowest rows.
 -- Assumes nothing.
-use mathlib.Core.Path.{_≡_, ap, ap₂, _∙_}
+use mathlib.Core.Path.{ap, ap₂, _∙_}
 use Prim.Native.Nat.{ℕ, min}
 use denote.Ref.{now}
 use lib.ListN.{length, getD}
