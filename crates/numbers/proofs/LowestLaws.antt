@@ -1,8 +1,8 @@
 -- What `lowest` finds: the search from 0 upwards stops at the first place that passes the test, and at n where none does.
 -- Assumes nothing.
-use Prim.Native.Nat.{ℕ, zero, suc, _+_, _≤_, _<_, suc-le-suc, zero-le}
+use Prim.Native.Nat.{ℕ, zero, suc, _+_, _≤_, _<_, min, suc-le-suc, zero-le}
 use mathlib.Core.Path.{_≡_, refl, ap}
-use mathlib.Core.Bool.{Bool, true, false, cond}
+use mathlib.Core.Bool.{Bool, true, false, cond, _||_}
 use native.Mathlib.Nat.{le-of-suc-le-suc}
 use native.Mathlib.Omega.{arith}
 use borrow.Author.Count.{below-more}
@@ -68,6 +68,17 @@ lowest-same (suc n) test other same =
     rw (same zero (suc-le-suc zero-le))
     (ap (λ (m : ℕ). cond (other zero) zero (suc m))
     (lowest-same n (λ k. test (suc k)) (λ k. other (suc k)) (λ k l. same (suc k) (suc-le-suc l))))
+
+-- The lowest place at which one of two tests passes is the lesser of their lowest places.
+pub lowest-either : (n : ℕ) (test other : ℕ → Bool) → min (lowest n test) (lowest n other) ≡ lowest n (λ k. test k || other k)
+unfolding lowest
+lowest-either zero test other = omega arith
+lowest-either (suc n) test other = go (test zero) (other zero) _ _ _ (lowest-either n (λ k. test (suc k)) (λ k. other (suc k)))
+  where
+    go : (p q : Bool) (a b c : ℕ) → min a b ≡ c → min (cond p zero (suc a)) (cond q zero (suc b)) ≡ cond (p || q) zero (suc c)
+    go true q a b c e = omega arith
+    go false true a b c e = omega arith
+    go false false a b c e = omega arith
 
 -- A search has passed the places below i and found nothing.
 abbrev pub Passed : ℕ → (ℕ → Bool) → ℕ → Type 0

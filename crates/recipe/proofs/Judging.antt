@@ -1,7 +1,7 @@
 -- How the judge's definition is taken rule by rule: a rule that some place breaks ends it at the lowest such place, and a rule
 -- that no place breaks leaves it to the next. Assumes nothing.
 use mathlib.Core.Bool.{Bool, true, false, cond, not, _&&_}
-use mathlib.Core.List.{List, [], _∷_}
+use mathlib.Core.List.{List, [], _∷_, _++_}
 use mathlib.Core.Path.{_≡_, refl, sym, ap, _∙_}
 use Prim.Native.Nat.{ℕ, _≤_, _<_}
 use native.Mathlib.Omega.{arith}
@@ -123,3 +123,27 @@ module _ (z : Size) (t : Table) where
 pub all-passed : judgedBy [] ≡ Admitted
 unfolding judgedBy
 all-passed = refl
+
+-- Where rules are tried after others, a refusal by the first ones stands.
+pub earlier-refuse : (first later : List Rule) (why : Refusal) → judgedBy first ≡ Refused why → judgedBy (first ++ later) ≡ Refused why
+unfolding judgedBy
+earlier-refuse [] later why e = let n : _≡_ {A = ℕ} 0 1 = cc in absurd (omega arith)
+earlier-refuse (r ∷ more) later why e = go (ltb (place r more) (r .places)) (earlier-refuse more later why) e
+  where
+    go : (b : Bool) → (judgedBy more ≡ Refused why → judgedBy (more ++ later) ≡ Refused why)
+        → cond b (Refused (r .refusal (place r more))) (judgedBy more) ≡ Refused why
+        → cond b (Refused (r .refusal (place r more))) (judgedBy (more ++ later)) ≡ Refused why
+    go true further e = e
+    go false further e = further e
+
+-- What the first ones admit is left to the later ones.
+pub later-decide : (first later : List Rule) → judgedBy first ≡ Admitted → judgedBy (first ++ later) ≡ judgedBy later
+unfolding judgedBy
+later-decide [] later e = refl
+later-decide (r ∷ more) later e = go (ltb (place r more) (r .places)) (later-decide more later) e
+  where
+    go : (b : Bool) → (judgedBy more ≡ Admitted → judgedBy (more ++ later) ≡ judgedBy later)
+        → cond b (Refused (r .refusal (place r more))) (judgedBy more) ≡ Admitted
+        → cond b (Refused (r .refusal (place r more))) (judgedBy (more ++ later)) ≡ judgedBy later
+    go true further e = let n : _≡_ {A = ℕ} 0 1 = cc in absurd (omega arith)
+    go false further e = further e

@@ -9,7 +9,7 @@ use lib.ListN.{length, take, drop, length-map}
 use lib.Seq.{take-at, take-append-seam}
 use Rattle.numbers.specs.General.{laid}
 use Rattle.numbers.specs.Sizes.{ours}
-use Rattle.recipe.specs.Tables.{Table, tableOf}
+use Rattle.recipe.specs.Tables.{Table}
 use Rattle.recipe.specs.declared.Row.{Row}
 use Rattle.analysis.specs.Replies.{analysed, matrixAfter}
 use Rattle.analysis.specs.declared.Analysed.{Analysed}
@@ -17,19 +17,14 @@ use Rattle.analysis.proofs.analyse.Reads.{Post as analyse-post}
 use Rattle.listing.specs.Replies.{listed, matrixListed, bytesListed}
 use Rattle.listing.specs.declared.Listed.{Listed}
 use Rattle.listing.proofs.list_pairs.Reads.{Post as list-pairs-post}
-use Rattle.recipe.specs.Records.{kindsOf, xsOf, ysOf, tableOfRows}
+use Rattle.recipe.specs.Records.{kindsOf, xsOf, ysOf}
 use Rattle.table.specs.Reading.{Reading, rowsOf, rootsOf, replyOf}
 use Rattle.table.specs.declared.Read.{Read}
+use Rattle.table.proofs.CopiedTable.{same-table}
 use Rattle.sheet.specs.Reading.{readSheet}
 use Rattle.sheet.proofs.read_sheet.Reads.{Post as read-sheet-post}
 use Rattle.records.specs.Records.{readRecords}
 use Rattle.records.specs.Inner.{Answers, Lists, Reads}
-
--- Three slices that hold the fields of the rows are the same table.
-pub same-table :
-    (rows : List Row) (kinds xs ys roots : List ℕ) → kinds ≡ kindsOf rows → xs ≡ xsOf rows → ys ≡ ysOf rows
-    → tableOf kinds xs ys roots ≡ tableOfRows rows roots
-same-table rows kinds xs ys roots p q s = cc
 
 -- `analyse-post` is the contract of the entry on slices, `Answers` that of the entry on records.
 pub entries-agree :

@@ -5,5 +5,6 @@ pub mod CountedLoop
 pub mod LocalArray
 pub mod RowMemory
 pub mod CopyCall
+pub mod CopiedTable
 pub mod Unique
 mod Examples

@@ -7,7 +7,7 @@ use denote.Ref.{now}
 use Rattle.numbers.specs.Sizes.{ours, rowCeiling}
 use Rattle.recipe.specs.Tables.{Table}
 use Rattle.listing.specs.Replies.{listed, matrixListed, bytesListed}
-use Rattle.records.proofs.CopiedTable.{first-are, first-n}
+use Rattle.table.proofs.CopiedTable.{first-are, first-n}
 use Rattle.records.proofs.TooMany.{too-many-listed}
 use borrow.Author.Needs.{needs}
 use Rattle.records.proofs.list_copied.Statement.{statement}

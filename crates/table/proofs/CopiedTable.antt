@@ -8,13 +8,18 @@ use native.Mathlib.Omega.{arith}
 use lib.ListN.{length, take, length-map}
 use lib.Seq.{length-take-le}
 use Rattle.numbers.specs.Sizes.{rowCeiling}
-use Rattle.recipe.specs.Records.{tableOfRows}
+use Rattle.recipe.specs.Records.{kindsOf, xsOf, ysOf, tableOfRows}
 use Rattle.recipe.specs.Tables.{tableOf}
 use Rattle.recipe.specs.declared.Row.{Row}
 use Rattle.table.specs.Inner.{column, columnsOf}
 use Rattle.table.specs.declared.Columns.{Columns}
 use Rattle.table.proofs.Laying.{column-begins}
-use Rattle.records.proofs.Agreement.{same-table}
+
+-- Three slices that hold the fields of the rows are the same table.
+pub same-table :
+    (rows : List Row) (kinds xs ys roots : List ℕ) → kinds ≡ kindsOf rows → xs ≡ xsOf rows → ys ≡ ysOf rows
+    → tableOf kinds xs ys roots ≡ tableOfRows rows roots
+same-table rows kinds xs ys roots p q s = cc
 
 module _ (n : ℕ) (rows : List Row) (fits : n ≤ rowCeiling) (many : length rows ≡ n) where
   first-of : (field : Row → ℕ) → take n (column (map field rows)) ≡ map field rows
