@@ -1,13 +1,12 @@
 -- A table that keeps the writer's rules is one whose records and roots fields can hold, few enough and whole: each rule is one of these facts.
 -- Assumes nothing.
-use mathlib.Core.Bool.{Bool, true, false, not, _&&_, _||_}
+use mathlib.Core.Bool.{Bool, true, false, not, _||_}
 use mathlib.Core.List.{List, [], _∷_}
 use mathlib.Core.Path.{_≡_, refl, sym, subst}
 use Prim.Native.Nat.{ℕ, zero, suc, _≤_, _<_}
 use native.Mathlib.Nat.{le-refl, le-of-suc-le-suc, not-suc-le-zero}
 use native.Mathlib.Omega.{arith}
-use borrow.Author.Tests.{ltb-false, leb-true, eqb-true, not-false, le-ltb, le-leb, eq-eqb}
-use lib.Dec.{leb, eqb}
+use borrow.Author.Tests.{ltb-false, not-false, le-ltb, le-leb, eq-eqb}
 use lib.ListN.{length, getD, length-map}
 use Rattle.numbers.specs.General.{inTurn}
 use Rattle.numbers.specs.Sizes.{Size, rowCeiling}
@@ -15,12 +14,12 @@ use Rattle.recipe.specs.Offences.{KeepsRules}
 use Rattle.recipe.specs.Records.{tableOfRows}
 use Rattle.recipe.specs.Tables.{Table, rows, procs, kindAt, xAt, yAt, rootAt}
 use Rattle.recipe.specs.declared.Row.{Row}
-use Rattle.recipe.proofs.Operands.{and-first, and-second}
 use Rattle.sheet.specs.Form.{Short, ShortRow, Every}
 use Rattle.sheet.proofs.Outcomes.{every-more}
 use Rattle.table.specs.Inner.{blank}
 use Rattle.writer.specs.Rules.{sizesWritable, tooLong, tableRules}
 use Rattle.writer.specs.Sheets.{rowAt, recordsOf}
+use Rattle.writer.proofs.Judging.{sized, sizesFit}
 use Rattle.writer.proofs.Records.{row-again}
 
 -- ---- every element, and every place
@@ -62,18 +61,13 @@ pub record Kept (z : Size) (t : Table) : Type 0 where
 
 module _ (z : Size) (t : Table) where
   pub kept : KeepsRules (tableRules z t) → Kept z t
-  unfolding sizesWritable
   kept k =
-      let few : Bool = leb (rows t) rowCeiling in
-      let fewer : Bool = leb (procs t) (z .procs) in
-      let four = not-false (few && fewer && eqb (length (t .xs)) (rows t) && eqb (length (t .ys)) (rows t)) (k .0 0 (omega arith)) in
-      let three = and-first (few && fewer && eqb (length (t .xs)) (rows t)) (eqb (length (t .ys)) (rows t)) four in
-      let two = and-first (few && fewer) (eqb (length (t .xs)) (rows t)) three in
+      let sizes = sized z (rows t) (length (t .xs)) (length (t .ys)) (procs t) (not-false (sizesFit z t) (k .0 0 (omega arith))) in
       record {
-        fewRows = leb-true (rows t) rowCeiling (and-first few fewer two);
-        fewProcs = leb-true (procs t) (z .procs) (and-second few fewer two);
-        xsWhole = eqb-true (length (t .xs)) (rows t) (and-second (few && fewer) (eqb (length (t .xs)) (rows t)) three);
-        ysWhole = eqb-true (length (t .ys)) (rows t) (and-second (few && fewer && eqb (length (t .xs)) (rows t)) (eqb (length (t .ys)) (rows t)) four);
+        fewRows = sizes .few-rows;
+        fewProcs = sizes .few-procs;
+        xsWhole = sizes .xs-match;
+        ysWhole = sizes .ys-match;
         rowsShort = every-in-turn ShortRow (rowAt t) (rows t) (λ i h.
             let short = or-neither (tooLong (xAt t i)) (tooLong (yAt t i)) (k .1 .1 .0 i h) in
             record {

@@ -10,10 +10,11 @@ use Rattle.numbers.specs.Sizes.{ours}
 use Rattle.recipe.specs.Rules.{judgedBy}
 use Rattle.recipe.specs.Tables.{Table, tableOf}
 use Rattle.recipe.specs.declared.Judged.the-variants.{Admitted}
+use Rattle.recipe.proofs.Offences.{keeps-of}
 use Rattle.writer.specs.Rules.{tableRules}
 use Rattle.writer.specs.Sheets.{sheetOf}
 use Rattle.writer.specs.declared.Written.the-variants as reply
-use Rattle.writer.proofs.Judging.{Spellable, admitted-means}
+use Rattle.writer.proofs.Kept.{Kept, kept}
 use Rattle.writer.proofs.ReplyLaws.{refused-writing, short-writing, fitting-writing}
 use borrow.Author.Needs.{needs}
 use Rattle.writer.proofs.write_sheet.Statement.{statement}
@@ -36,8 +37,8 @@ judged c = c .before .before
 admitted-here : (c : tie.After-enum-told) → judgedBy (tableRules ours (table (judged c))) ≡ Admitted
 admitted-here c = sym (judged c .judge .ensures) ∙ c .enum-told .given .1
 
-spellable : (c : tie.After-enum-told) → Spellable ours (table (judged c))
-spellable c = admitted-means ours (table (judged c)) (admitted-here c)
+facts : (c : tie.After-enum-told) → Kept ours (table (judged c))
+facts c = let t = table (judged c) in kept ours t (keeps-of (tableRules ours t) (admitted-here c))
 
 -- where the sheet fits
 fits : (c : tie.Else1) → let j = judged (c .before .before) in length (sheetOf (table j)) ≤ length (bytes j)
@@ -49,7 +50,7 @@ returns c =
     refused-writing ours (table j) (bytes j) _ (sym (j .judge .ensures) ∙ c .before .why .given .1)
 
 sheet-length-requires : tie.Need-sheet-length-requires
-sheet-length-requires c κs = let s = spellable c in ((s .few-rows, s .few-procs), (s .xs-match, s .ys-match))
+sheet-length-requires c κs = let s = facts c in ((s .fewRows, s .fewProcs), (s .xsWhole, s .ysWhole))
 
 returns-2 : tie.Need-returns-2
 returns-2 c =
@@ -57,7 +58,7 @@ returns-2 c =
     short-writing ours (table (judged e)) (bytes (judged e)) (admitted-here e) (rw (c .before .sheet-length .ensures) at (c .if1 .taken))
 
 put-sheet-requires : tie.Need-put-sheet-requires
-put-sheet-requires c κs = let s = spellable (c .before .before .before) in ((s .xs-match, s .ys-match), fits (c .before))
+put-sheet-requires c κs = let s = facts (c .before .before .before) in ((s .xsWhole, s .ysWhole), fits (c .before))
 
 returns-3 : tie.Need-returns-3
 returns-3 c =
