@@ -33,6 +33,10 @@ pub const LABELS: usize = 64;
 pub const SHEET_BYTES: usize = 65_536;
 /// A listing has at most so many bytes.
 pub const LISTING_BYTES: usize = 11_858;
+/// A sheet that is written has at most so many bytes.
+pub const WRITTEN_BYTES: usize = 19_904;
+/// A field of a sheet holds numbers up to this one.
+pub const LONGEST_NUMBER: u16 = 9_999;
 
 /// What the analysis of an admitted table gives.
 pub struct Answer {
