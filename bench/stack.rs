@@ -3,7 +3,8 @@
 //!   cargo run --release --bin stack        (in tests/second, BUSHKALOTE_PANEL the folder of libpanel.a)
 //!
 //! The stack below the caller is painted, the entry called, and the lowest place found where the paint is gone.
-//! A level is what one level more takes, between half the depth and the whole. x86-64 only.
+//! A level is what one level more takes, between half the depth and the whole. An entry that takes less than 256 bytes is shown
+//! with 256. x86-64 only.
 
 use std::process::ExitCode;
 
@@ -19,7 +20,7 @@ mod painted {
     const PAINT: u64 = 0xa5c3_96e1_0f78_5ad2;
     /// So much is painted, and so much nearest to the caller is not: the painter's own frame lies there.
     const DEPTH: usize = 4 << 20;
-    const OWN: usize = 1 << 10;
+    const OWN: usize = 1 << 8;
 
     #[inline(always)]
     fn stack_pointer() -> usize {

@@ -197,7 +197,7 @@ static void written(void)
     y[4] = r[4].y = 10000;
     expect("a long y", bushkalote_write_sheet(k, 5, x, 5, y, 5, p, 2, text, sizeof text), 0xf00000004);
     expect("a record's long y", bushkalote_write_rows(r, 5, p, 2, text, sizeof text), 0xf00000004);
-    x[3] = r[3].x = 65535;
+    x[3] = r[3].x = 10000;
     expect("a long x", bushkalote_write_sheet(k, 5, x, 5, y, 5, p, 2, text, 0), 0xf00000003);
     expect("a record's long x", bushkalote_write_rows(r, 5, p, 2, text, 0), 0xf00000003);
     k[4] = r[4].kind = 7;

@@ -4,7 +4,8 @@
 //! and the least solution of the rules is found by a worklist over constraints
 //! on sets. The number of rounds is counted beside it, naively: every body is
 //! worked out again in each round, and whole sets are compared. Where the
-//! worklist and the last round differ, the program stops with a message.
+//! worklist and the last round differ, the program stops with a message. A
+//! table is written as a sheet line by line.
 
 pub mod calls;
 pub mod compare;
