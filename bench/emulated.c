@@ -1,5 +1,5 @@
 /*
- * Times of the library's three entries beside those of straight.c, a
+ * Times of the library's four entries beside those of straight.c, a
  * straightforward C version of the same work, and of the library's entries on
  * records beside those on slices, in one process on the same sheets. Where the
  * library only runs in the emulator all do, so that only the ratios say
@@ -39,15 +39,16 @@ struct store {
     uint16_t roots[BUSHKALOTE_PROCEDURES];
     uint64_t matrix[BUSHKALOTE_LABELS];
     uint8_t listing[BUSHKALOTE_LISTING_BYTES];
+    uint8_t written[BUSHKALOTE_WRITTEN_BYTES];
 };
 
 enum { LIBRARY, STRAIGHT, RECORDS, VERSIONS };
 
 static const char *const version_names[VERSIONS] = {"the library", "the C version", "the library on records"};
 
-enum { ANALYSE, READ_SHEET, LIST_PAIRS, ENTRIES };
+enum { ANALYSE, READ_SHEET, LIST_PAIRS, WRITE_SHEET, ENTRIES };
 
-static const char *const entry_names[ENTRIES] = {"analyse", "read_sheet", "list_pairs"};
+static const char *const entry_names[ENTRIES] = {"analyse", "read_sheet", "list_pairs", "write_sheet"};
 
 /* Behind volatile pointers no version is built into its caller. */
 typedef uint64_t analyse_entry(
@@ -58,10 +59,14 @@ typedef uint64_t read_entry(
 typedef uint64_t list_entry(
     const uint8_t *, size_t, const uint16_t *, size_t, const uint16_t *, size_t, const uint16_t *, size_t,
     uint64_t *, size_t, uint8_t *, size_t);
+typedef uint64_t write_entry(
+    const uint8_t *, size_t, const uint16_t *, size_t, const uint16_t *, size_t, const uint16_t *, size_t,
+    uint8_t *, size_t);
 
 static analyse_entry *volatile analyse[] = {bushkalote_analyse, straight_analyse};
 static read_entry *volatile read_sheet[] = {bushkalote_read_sheet, straight_read_sheet};
 static list_entry *volatile list_pairs[] = {bushkalote_list_pairs, straight_list_pairs};
+static write_entry *volatile write_sheet[] = {bushkalote_write_sheet, straight_write_sheet};
 
 /* The sheet, its recipe as the library reads it, and the store of each version. */
 static uint8_t sheet[BUSHKALOTE_SHEET_BYTES + 1];
@@ -82,6 +87,9 @@ static uint64_t call_on_records(int entry)
     case READ_SHEET:
         return bushkalote_read_rows(sheet, sheet_len, s->records, BUSHKALOTE_ROWS, s->roots,
                                     BUSHKALOTE_PROCEDURES);
+    case WRITE_SHEET:
+        return bushkalote_write_rows(recipe.records, rows, recipe.roots, procedures, s->written,
+                                     BUSHKALOTE_WRITTEN_BYTES);
     default:
         return bushkalote_list_rows(recipe.records, rows, recipe.roots, procedures, s->matrix, BUSHKALOTE_LABELS,
                                     s->listing, BUSHKALOTE_LISTING_BYTES);
@@ -101,6 +109,9 @@ static uint64_t call(int version, int entry)
     case READ_SHEET:
         return read_sheet[version](sheet, sheet_len, s->kinds, BUSHKALOTE_ROWS, s->xs, BUSHKALOTE_ROWS, s->ys,
                                    BUSHKALOTE_ROWS, s->roots, BUSHKALOTE_PROCEDURES);
+    case WRITE_SHEET:
+        return write_sheet[version](recipe.kinds, rows, recipe.xs, rows, recipe.ys, rows, recipe.roots, procedures,
+                                    s->written, BUSHKALOTE_WRITTEN_BYTES);
     default:
         return list_pairs[version](recipe.kinds, rows, recipe.xs, rows, recipe.ys, rows, recipe.roots, procedures,
                                    s->matrix, BUSHKALOTE_LABELS, s->listing, BUSHKALOTE_LISTING_BYTES);
@@ -225,7 +236,7 @@ int main(int argc, char **argv)
         const uint64_t reply = call(LIBRARY, READ_SHEET);
         rows = BUSHKALOTE_ROWS_READ(reply);
         procedures = BUSHKALOTE_PROCEDURES_READ(reply);
-        if (!agree(argv[a], ANALYSE) || !agree(argv[a], LIST_PAIRS))
+        if (!agree(argv[a], ANALYSE) || !agree(argv[a], LIST_PAIRS) || !agree(argv[a], WRITE_SHEET))
             return 1;
         for (int e = 0; e < ENTRIES; e++) {
             double ns[VERSIONS];

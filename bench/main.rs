@@ -1,4 +1,4 @@
-//! Times of the library's three entries beside those of a straightforward
+//! Times of the library's four entries beside those of a straightforward
 //! optimised Rust version of the same work, and of the library's entries on
 //! records beside those on slices, on the same inputs. The first ratio is the
 //! library's time over the Rust version's, the second the time on records over
@@ -28,7 +28,8 @@ use second::compare;
 use second::dice::Dice;
 use second::panel::Panel;
 use second::table::Row;
-use second::{gen, samples, sheet, Table, LABELS, LISTING_BYTES, PROCEDURES, ROWS};
+use second::{gen, samples, sheet, Table};
+use second::{LABELS, LISTING_BYTES, PROCEDURES, ROWS, WRITTEN_BYTES};
 use std::hint::black_box;
 use std::path::Path;
 use std::process::ExitCode;
@@ -88,6 +89,7 @@ struct Bench<'a> {
     sheet: &'a [u8],
     matrix: Vec<u64>,
     listed: Vec<u8>,
+    written: Vec<u8>,
     kinds: Vec<u8>,
     xs: Vec<u16>,
     ys: Vec<u16>,
@@ -95,7 +97,7 @@ struct Bench<'a> {
     roots: Vec<u16>,
 }
 
-const ENTRIES: [&str; 3] = ["analyse", "read_sheet", "list_pairs"];
+const ENTRIES: [&str; 4] = ["analyse", "read_sheet", "list_pairs", "write_sheet"];
 
 impl<'a> Bench<'a> {
     fn of(table: &'a Table, records: &'a [Row], sheet: &'a [u8]) -> Self {
@@ -110,6 +112,7 @@ impl<'a> Bench<'a> {
             sheet,
             matrix: vec![0; LABELS],
             listed: vec![0; LISTING_BYTES],
+            written: vec![0; WRITTEN_BYTES],
             kinds: vec![0; ROWS],
             xs: vec![0; ROWS],
             ys: vec![0; ROWS],
@@ -137,6 +140,7 @@ impl<'a> Bench<'a> {
                 &mut self.ys,
                 &mut self.roots,
             ),
+            "write_sheet" => panel.write_sheet(&t.kinds, &t.xs, &t.ys, &t.roots, &mut self.written),
             _ => panel.list_pairs(
                 &t.kinds,
                 &t.xs,
@@ -154,6 +158,7 @@ impl<'a> Bench<'a> {
         match entry {
             "analyse" => panel.analyse_rows(rows, roots, &mut self.matrix),
             "read_sheet" => panel.read_rows(black_box(self.sheet), &mut self.rows, &mut self.roots),
+            "write_sheet" => panel.write_rows(rows, roots, &mut self.written),
             _ => panel.list_rows(rows, roots, &mut self.matrix, &mut self.listed),
         }
     }
@@ -192,6 +197,7 @@ fn checked(name: &str, panel: &dyn Panel, table: &Table, bytes: &[u8]) -> Result
     compare::reading(panel, dice, bytes, [ROWS, ROWS, ROWS, PROCEDURES])
         .and_then(|()| compare::analysing(panel, dice, table, answer, LABELS))
         .and_then(|()| compare::listing(panel, dice, table, answer, LABELS, LISTING_BYTES))
+        .and_then(|()| compare::writing(panel, dice, table, WRITTEN_BYTES))
         .map_err(|what| format!("{name}: {what}"))
 }
 

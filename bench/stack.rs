@@ -3,7 +3,8 @@
 //!   cargo run --release --bin stack        (in tests/second, BUSHKALOTE_PANEL the folder of libpanel.a)
 //!
 //! The stack below the caller is painted, the entry called, and the lowest place found where the paint is gone.
-//! A level is what one level more takes, between half the depth and the whole. x86-64 only.
+//! A level is what one level more takes, between half the depth and the whole. An entry that takes less than 256 bytes is shown
+//! with 256. x86-64 only.
 
 use std::process::ExitCode;
 
@@ -12,13 +13,14 @@ mod painted {
     use second::panel::Panel;
     use second::samples::{looped, nested, seq, spawned, step, waited, Statement};
     use second::table::Row;
-    use second::{sheet, Table, LABELS, LISTING_BYTES, PROCEDURES, ROWS};
+    use second::{sheet, Table};
+    use second::{LABELS, LISTING_BYTES, PROCEDURES, ROWS, WRITTEN_BYTES};
     use std::arch::asm;
 
     const PAINT: u64 = 0xa5c3_96e1_0f78_5ad2;
     /// So much is painted, and so much nearest to the caller is not: the painter's own frame lies there.
     const DEPTH: usize = 4 << 20;
-    const OWN: usize = 1 << 10;
+    const OWN: usize = 1 << 8;
 
     #[inline(always)]
     fn stack_pointer() -> usize {
@@ -52,21 +54,24 @@ mod painted {
         here - unsafe { lowest_touched(here - DEPTH, here - OWN) }
     }
 
-    const ENTRIES: [&str; 6] = [
+    const ENTRIES: [&str; 8] = [
         "analyse",
         "analyse_rows",
         "list_pairs",
         "list_rows",
         "read_sheet",
         "read_rows",
+        "write_sheet",
+        "write_rows",
     ];
 
     /// What each entry takes on a table and its sheet.
-    fn of_table(panel: &dyn Panel, t: &Table) -> [usize; 6] {
+    fn of_table(panel: &dyn Panel, t: &Table) -> [usize; 8] {
         let rows = t.records().expect("an even table");
         let bytes = sheet::spell(t);
         let mut matrix = vec![0; LABELS];
         let mut listed = vec![0; LISTING_BYTES];
+        let mut written = vec![0; WRITTEN_BYTES];
         let (mut kinds, mut xs, mut ys) = (vec![0; ROWS], vec![0; ROWS], vec![0; ROWS]);
         let mut stored = vec![
             Row {
@@ -86,6 +91,8 @@ mod painted {
             taken(&mut || panel.list_rows(&rows, &t.roots, &mut matrix, &mut listed)),
             taken(&mut || panel.read_sheet(&bytes, &mut kinds, &mut xs, &mut ys, &mut roots)),
             taken(&mut || panel.read_rows(&bytes, &mut stored, &mut roots)),
+            taken(&mut || panel.write_sheet(&t.kinds, &t.xs, &t.ys, &t.roots, &mut written)),
+            taken(&mut || panel.write_rows(&rows, &t.roots, &mut written)),
         ]
     }
 

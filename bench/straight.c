@@ -1,13 +1,13 @@
 /*
  * The same work in straightforward C, as bench/straight.rs does it: label sets
  * as 64-bit numbers, arrays on the stack, all rows in every round, a reader
- * that goes over the sheet once, and a writer straight into the lent bytes.
+ * that goes over the sheet once, and writers straight into the lent bytes.
  */
 #include "straight.h"
 
 #include <string.h>
 
-enum { ROWS = 1024, PROCEDURES = 64, LABELS = 64, SHEET_BYTES = 65536 };
+enum { ROWS = 1024, PROCEDURES = 64, LABELS = 64, SHEET_BYTES = 65536, LONGEST_NUMBER = 9999 };
 
 enum { SKIP, STEP, SEQ, LOOP, ASYNC, FINISH, CALL };
 
@@ -306,22 +306,47 @@ static int take_number(struct reader *in, char end, uint16_t *number)
     return 1;
 }
 
+/* The keywords of the kinds, each with the tab behind it. */
+static const struct {
+    const char *keyword;
+    size_t length;
+} keywords[] = {
+    {"skip\t", 5}, {"step\t", 5}, {"seq\t", 4}, {"loop\t", 5}, {"async\t", 6}, {"finish\t", 7}, {"call\t", 5},
+};
+
 /* Goes past a kind's keyword and its tab. */
 static int take_kind(struct reader *in, uint8_t *kind)
 {
-    static const struct {
-        const char *keyword;
-        size_t length;
-    } keywords[] = {
-        {"skip\t", 5}, {"step\t", 5}, {"seq\t", 4}, {"loop\t", 5}, {"async\t", 6}, {"finish\t", 7}, {"call\t", 5},
-    };
-
     for (size_t k = 0; k <= CALL; k++) {
         if (take_text(in, keywords[k].keyword, keywords[k].length)) {
             *kind = (uint8_t)k;
             return 1;
         }
     }
+    return 0;
+}
+
+/* Writes a kind's keyword and its tab, and returns where the next text goes. */
+static uint8_t *put_kind(uint8_t *out, uint8_t kind)
+{
+    memcpy(out, keywords[kind].keyword, keywords[kind].length);
+    return out + keywords[kind].length;
+}
+
+/* The reply of a refusal, or 0 for a recipe that can be written where there is room for its sheet. */
+static uint64_t writable(const struct recipe *t, size_t xs_len, size_t ys_len)
+{
+    if (t->rows > ROWS || t->procedures > PROCEDURES || xs_len != t->rows || ys_len != t->rows)
+        return refuse(1, 0);
+    for (size_t r = 0; r < t->rows; r++)
+        if (t->kinds[r] > CALL)
+            return refuse(3, r);
+    for (size_t r = 0; r < t->rows; r++)
+        if (t->xs[r] > LONGEST_NUMBER || t->ys[r] > LONGEST_NUMBER)
+            return refuse(15, r);
+    for (size_t p = 0; p < t->procedures; p++)
+        if (t->roots[p] > LONGEST_NUMBER)
+            return refuse(15, p);
     return 0;
 }
 
@@ -434,5 +459,39 @@ uint64_t straight_list_pairs(
         }
     }
     memcpy(matrix, m, sizeof m);
+    return length;
+}
+
+uint64_t straight_write_sheet(
+    const uint8_t *kinds, size_t kinds_len,
+    const uint16_t *xs, size_t xs_len,
+    const uint16_t *ys, size_t ys_len,
+    const uint16_t *roots, size_t roots_len,
+    uint8_t *bytes, size_t bytes_len)
+{
+    const struct recipe t = {kinds, xs, ys, kinds_len, roots, roots_len};
+    const uint64_t reply = writable(&t, xs_len, ys_len);
+    uint8_t *out = bytes;
+    size_t length = 0;
+
+    if (reply != 0)
+        return reply;
+    /* Beside the keyword and its tab a row has four bytes and its digits, a procedure three. */
+    for (size_t r = 0; r < kinds_len; r++)
+        length += keywords[kinds[r]].length + digits(xs[r]) + digits(ys[r]) + 4;
+    for (size_t p = 0; p < roots_len; p++)
+        length += digits(roots[p]) + 3;
+    if (bytes_len < length)
+        return refuse(14, 0);
+    for (size_t r = 0; r < kinds_len; r++) {
+        out = put_text(out, "R\t");
+        out = put_kind(out, kinds[r]);
+        out = put_number(out, xs[r], '\t');
+        out = put_number(out, ys[r], '\n');
+    }
+    for (size_t p = 0; p < roots_len; p++) {
+        out = put_text(out, "P\t");
+        out = put_number(out, roots[p], '\n');
+    }
     return length;
 }

@@ -1,5 +1,5 @@
 /*
- * The work of the panel's three entries in straightforward C, the measure for
+ * The work of the panel's four entries in straightforward C, the measure for
  * the library's speed: the same arguments and the same replies as in panel.h.
  */
 #ifndef BUSHKALOTE_STRAIGHT_H
@@ -28,6 +28,13 @@ uint64_t straight_list_pairs(
     const uint16_t *ys, size_t ys_len,
     const uint16_t *roots, size_t roots_len,
     uint64_t *matrix, size_t matrix_len,
+    uint8_t *bytes, size_t bytes_len);
+
+uint64_t straight_write_sheet(
+    const uint8_t *kinds, size_t kinds_len,
+    const uint16_t *xs, size_t xs_len,
+    const uint16_t *ys, size_t ys_len,
+    const uint16_t *roots, size_t roots_len,
     uint8_t *bytes, size_t bytes_len);
 
 #endif

@@ -1,6 +1,6 @@
 //! The same work in straightforward, optimised Rust: label sets as 64-bit
 //! numbers, arrays on the stack, all rows in every round, a reader that goes
-//! over the sheet once, and a writer straight into the lent bytes.
+//! over the sheet once, and writers straight into the lent bytes.
 //!
 //! It is the measure for the library's speed, and the tests use it as one more
 //! version to compare.
@@ -12,6 +12,7 @@ const ROWS: usize = 1024;
 const PROCEDURES: usize = 64;
 const LABELS: usize = 64;
 const SHEET_BYTES: usize = 65_536;
+const LONGEST_NUMBER: u16 = 9_999;
 
 pub struct Straight;
 
@@ -281,16 +282,18 @@ fn parsed_number(bytes: &[u8], at: &mut usize, end: u8) -> Option<u16> {
     Some(n)
 }
 
+/// The keywords of the kinds, each with the tab behind it.
+const KEYWORDS: [&[u8]; 7] = [
+    b"skip\t",
+    b"step\t",
+    b"seq\t",
+    b"loop\t",
+    b"async\t",
+    b"finish\t",
+    b"call\t",
+];
+
 fn parsed_kind(bytes: &[u8], at: &mut usize) -> Option<u8> {
-    const KEYWORDS: [&[u8]; 7] = [
-        b"skip\t",
-        b"step\t",
-        b"seq\t",
-        b"loop\t",
-        b"async\t",
-        b"finish\t",
-        b"call\t",
-    ];
     for (k, keyword) in KEYWORDS.iter().enumerate() {
         if bytes[*at..].starts_with(keyword) {
             *at += keyword.len();
@@ -298,6 +301,25 @@ fn parsed_kind(bytes: &[u8], at: &mut usize) -> Option<u8> {
         }
     }
     None
+}
+
+/// Whether a table can be written, without regard to the room for its sheet.
+fn writable(kinds: &[u8], xs: &[u16], ys: &[u16], roots: &[u16]) -> Result<(), u64> {
+    let n = kinds.len();
+    if n > ROWS || roots.len() > PROCEDURES || xs.len() != n || ys.len() != n {
+        return Err(refuse(1, 0));
+    }
+    if let Some(r) = kinds.iter().position(|&k| k > 6) {
+        return Err(refuse(3, r));
+    }
+    let long = |&n: &u16| n > LONGEST_NUMBER;
+    if let Some(r) = xs.iter().zip(ys).position(|(x, y)| long(x) || long(y)) {
+        return Err(refuse(15, r));
+    }
+    match roots.iter().position(long) {
+        Some(p) => Err(refuse(15, p)),
+        None => Ok(()),
+    }
 }
 
 /// Records as three slices.
@@ -467,5 +489,49 @@ impl Panel for Straight {
     fn list_rows(&self, rows: &[Row], roots: &[u16], matrix: &mut [u64], bytes: &mut [u8]) -> u64 {
         let Columns { kinds, xs, ys } = columns(rows);
         self.list_pairs(&kinds, &xs, &ys, roots, matrix, bytes)
+    }
+
+    fn write_sheet(
+        &self,
+        kinds: &[u8],
+        xs: &[u16],
+        ys: &[u16],
+        roots: &[u16],
+        bytes: &mut [u8],
+    ) -> u64 {
+        if let Err(reply) = writable(kinds, xs, ys, roots) {
+            return reply;
+        }
+        let rows = || kinds.iter().zip(xs.iter().zip(ys));
+        // Beside the keyword and its tab a row has four bytes and its digits, a procedure three.
+        let mut length = 0;
+        for (&kind, (&x, &y)) in rows() {
+            let keyword = KEYWORDS[kind as usize].len();
+            length += keyword + digits(x as usize) + digits(y as usize) + 4;
+        }
+        for &root in roots {
+            length += digits(root as usize) + 3;
+        }
+        if bytes.len() < length {
+            return refuse(14, 0);
+        }
+        let mut out = Writer { bytes, at: 0 };
+        for (&kind, (&x, &y)) in rows() {
+            out.text(b"R\t");
+            out.text(KEYWORDS[kind as usize]);
+            out.number(x as usize, b'\t');
+            out.number(y as usize, b'\n');
+        }
+        for &root in roots {
+            out.text(b"P\t");
+            out.number(root as usize, b'\n');
+        }
+        debug_assert_eq!(out.at, length);
+        length as u64
+    }
+
+    fn write_rows(&self, rows: &[Row], roots: &[u16], bytes: &mut [u8]) -> u64 {
+        let Columns { kinds, xs, ys } = columns(rows);
+        self.write_sheet(&kinds, &xs, &ys, roots, bytes)
     }
 }

@@ -1,5 +1,5 @@
 /*
- * The recipe tool for a panel's firmware: the six entries of libpanel.a.
+ * The recipe tool for a panel's firmware: the eight entries of libpanel.a.
  * docs/PANEL.md is the guide to it: linking, stack, and an example.
  *
  * A slice is handed over as a pointer and a length, the length in elements,
@@ -34,7 +34,8 @@
  *
  *   number  meaning                                            value
  *   1       kinds, xs and ys of unequal length, or the rows    0
- *           not 1 to 1,024, or the procedures not 1 to 64
+ *           not 1 to 1,024, or the procedures not 1 to 64;
+ *           to be written there may be none of either
  *   2       matrix_len is below 64                             0
  *   3       an unknown kind, 7 or higher                       first such row
  *   4       an operand that its kind does not allow            first such row
@@ -45,11 +46,17 @@
  *   12      a malformed line                                   its line
  *   13      no room for the row or procedure of a line, or     its line
  *           the ceiling is reached
- *   14      bytes_len is too small for the listing             0
+ *   14      bytes_len is too small for the listing, or for     0
+ *           the sheet that is to be written
+ *   15      an x, a y or a root above 9,999, which no sheet    first such row, or
+ *           can hold                                           first such procedure
+ *                                                              where no row has one
  *
  * 1 to 7 are tried one after the other, each over the whole recipe. Of a sheet
  * 11 is tried first; then the first line that is malformed or finds no room
- * decides, 12 before 13. A refused call writes nothing.
+ * decides, 12 before 13. To write a sheet 1, 3, 15 and 14 are tried in this
+ * order. Where 15 gives i, row i is meant if the caller's table has a row i
+ * with an x or a y above 9,999, else procedure i. A refused call writes nothing.
  */
 #ifndef BUSHKALOTE_PANEL_H
 #define BUSHKALOTE_PANEL_H
@@ -65,10 +72,13 @@ extern "C" {
  * The version, 10,000 times the major number, 100 times the minor, and the
  * patch; and the same as text.
  */
-#define BUSHKALOTE_VERSION 100
-#define BUSHKALOTE_VERSION_TEXT "0.1.0"
+#define BUSHKALOTE_VERSION 200
+#define BUSHKALOTE_VERSION_TEXT "0.2.0"
 
-/* The numbers of replies, as in the table above. */
+/*
+ * The numbers of replies, as in the table above. 14 has an earlier name too,
+ * from when only a listing could be too long.
+ */
 #define BUSHKALOTE_SUCCESS 0
 #define BUSHKALOTE_WRONG_SIZES 1
 #define BUSHKALOTE_SHORT_MATRIX 2
@@ -80,7 +90,9 @@ extern "C" {
 #define BUSHKALOTE_LONG_SHEET 11
 #define BUSHKALOTE_WRONG_FORM 12
 #define BUSHKALOTE_NO_ROOM 13
+#define BUSHKALOTE_SHORT_BYTES 14
 #define BUSHKALOTE_LONG_LISTING 14
+#define BUSHKALOTE_LONG_NUMBER 15
 
 /* The most of everything; storage of these lengths is always enough. */
 #define BUSHKALOTE_ROWS 1024
@@ -88,6 +100,7 @@ extern "C" {
 #define BUSHKALOTE_LABELS 64
 #define BUSHKALOTE_SHEET_BYTES 65536
 #define BUSHKALOTE_LISTING_BYTES 11858
+#define BUSHKALOTE_WRITTEN_BYTES 19904
 
 /* A row as a record. */
 typedef struct bushkalote_row {
@@ -149,7 +162,25 @@ uint64_t bushkalote_list_pairs(
     uint8_t *bytes, size_t bytes_len);
 
 /*
- * The same three on records: there are no lengths that can differ, and the
+ * Writes a recipe as a sheet into the lent bytes: so an editor saves what it
+ * holds in memory. Refuses with 1, 3, 15 and 14. On success the value is the
+ * sheet's length in bytes, and bytes beyond it are untouched;
+ * BUSHKALOTE_WRITTEN_BYTES are room enough for any. The sheet is not ended by a
+ * zero byte. What is written is what the reader takes back: the same rows and
+ * roots. Operands are written as they stand, used by their kind or not; it is
+ * the analysis that judges them. So a recipe can be saved before it is
+ * finished, even one that has no row or no procedure yet. The recipe itself is
+ * not changed.
+ */
+uint64_t bushkalote_write_sheet(
+    const uint8_t *kinds, size_t kinds_len,
+    const uint16_t *xs, size_t xs_len,
+    const uint16_t *ys, size_t ys_len,
+    const uint16_t *roots, size_t roots_len,
+    uint8_t *bytes, size_t bytes_len);
+
+/*
+ * The same four on records: there are no lengths that can differ, and the
  * room for rows is the number of records.
  */
 uint64_t bushkalote_analyse_rows(
@@ -166,6 +197,11 @@ uint64_t bushkalote_list_rows(
     const bushkalote_row *rows, size_t rows_len,
     const uint16_t *roots, size_t roots_len,
     uint64_t *matrix, size_t matrix_len,
+    uint8_t *bytes, size_t bytes_len);
+
+uint64_t bushkalote_write_rows(
+    const bushkalote_row *rows, size_t rows_len,
+    const uint16_t *roots, size_t roots_len,
     uint8_t *bytes, size_t bytes_len);
 
 #ifdef __cplusplus

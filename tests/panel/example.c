@@ -1,8 +1,8 @@
 /*
- * The panel's six entries from C: reads the whole case from a sheet, works it
- * out, prints its listing, and meets the refusals, on slices and on records.
- * Ends with status 0 if every reply and all lent storage are as they should
- * be. Built and run by tests/panel/run.
+ * The panel's eight entries from C: reads the whole case from a sheet, works it
+ * out, prints its listing, changes it and saves it as an editor does, and meets
+ * the refusals, on slices and on records. Ends with status 0 if every reply and
+ * all lent storage are as they should be. Built and run by tests/panel/run.
  */
 #include <stdio.h>
 #include <string.h>
@@ -37,6 +37,9 @@ static uint16_t roots[BUSHKALOTE_PROCEDURES];
 static uint64_t matrix[BUSHKALOTE_LABELS + 1];
 static uint8_t listing[BUSHKALOTE_LISTING_BYTES];
 static uint8_t long_sheet[BUSHKALOTE_SHEET_BYTES + 1];
+static bushkalote_row read_back[BUSHKALOTE_ROWS];
+static uint16_t roots_back[BUSHKALOTE_PROCEDURES];
+static uint8_t saved[BUSHKALOTE_WRITTEN_BYTES + 1];
 
 static int differences = 0;
 
@@ -74,6 +77,11 @@ static uint64_t list(size_t rows, size_t procedures, size_t room)
 {
     return bushkalote_list_pairs(kinds, rows, xs, rows, ys, rows, roots, procedures, matrix,
                                  BUSHKALOTE_LABELS, listing, room);
+}
+
+static uint64_t save(size_t rows, size_t procedures, size_t room)
+{
+    return bushkalote_write_sheet(kinds, rows, xs, rows, ys, rows, roots, procedures, saved, room);
 }
 
 /* Reads a sheet and works it out; the reply of the analysis. */
@@ -150,6 +158,111 @@ static void on_records(void)
            bushkalote_read_rows(text, text_len, records, 9, roots, BUSHKALOTE_PROCEDURES),
            BUSHKALOTE_NO_ROOM, 9);
     expect_true("the records are unchanged", records[0].kind == 0x77 && records[8].y == 0x7777);
+}
+
+static int same_rows(const bushkalote_row *a, const bushkalote_row *b, size_t rows)
+{
+    for (size_t i = 0; i < rows; i++)
+        if (a[i].kind != b[i].kind || a[i].x != b[i].x || a[i].y != b[i].y)
+            return 0;
+    return 1;
+}
+
+static int all_saved(uint8_t byte)
+{
+    for (size_t i = 0; i < sizeof saved; i++)
+        if (saved[i] != byte)
+            return 0;
+    return 1;
+}
+
+/* An editor: it reads a sheet into records, changes them in memory, and saves them as a sheet again. */
+static void edited_and_saved(void)
+{
+    /* The whole case with the wait around the second side branch alone, so that 1 and 2 never meet. */
+    static const char changed[] =
+        "R\tstep\t0\t0\n"
+        "R\tasync\t0\t0\n"
+        "R\tstep\t1\t0\n"
+        "R\tasync\t2\t0\n"
+        "R\tstep\t2\t0\n"
+        "R\tfinish\t3\t0\n"
+        "R\tseq\t5\t4\n"
+        "R\tstep\t3\t0\n"
+        "R\tseq\t6\t7\n"
+        "R\tseq\t1\t8\n"
+        "P\t9\n";
+    const size_t length = sizeof changed - 1;
+    uint64_t reply = bushkalote_read_rows((const uint8_t *)whole_case, sizeof whole_case - 1, records, BUSHKALOTE_ROWS,
+                                          roots, BUSHKALOTE_PROCEDURES);
+    size_t rows = BUSHKALOTE_ROWS_READ(reply), procedures = BUSHKALOTE_PROCEDURES_READ(reply);
+
+    /* What is not changed is saved as the sheet that it was. */
+    memset(saved, '#', sizeof saved);
+    expect("save the whole case",
+           bushkalote_write_rows(records, rows, roots, procedures, saved, BUSHKALOTE_WRITTEN_BYTES),
+           BUSHKALOTE_SUCCESS, sizeof whole_case - 1);
+    expect_true("the sheet that was read", memcmp(saved, whole_case, sizeof whole_case - 1) == 0);
+
+    /* The edit: row 5 becomes the wait around the side branch, and row 6 the sequence of it and step 2. */
+    records[5] = (bushkalote_row){5, 3, 0};
+    records[6] = (bushkalote_row){2, 5, 4};
+    memset(saved, '#', sizeof saved);
+    reply = bushkalote_write_rows(records, rows, roots, procedures, saved, BUSHKALOTE_WRITTEN_BYTES);
+    expect("save the changed recipe", reply, BUSHKALOTE_SUCCESS, (uint32_t)length);
+    expect_true("the changed sheet", memcmp(saved, changed, length) == 0);
+    expect_true("the byte beyond the sheet is untouched", saved[length] == '#');
+
+    /* What was saved is read back as it was in memory, and worked out: 1 and 2 do not meet any more. */
+    reply = bushkalote_read_rows(saved, BUSHKALOTE_VALUE(reply), read_back, BUSHKALOTE_ROWS, roots_back,
+                                 BUSHKALOTE_PROCEDURES);
+    expect("read the saved recipe", reply, BUSHKALOTE_SUCCESS, 10 + 65536 * 1);
+    expect_true("the same rows and roots", same_rows(read_back, records, rows) && roots_back[0] == roots[0]);
+    expect("analyse the saved recipe",
+           bushkalote_analyse_rows(read_back, rows, roots_back, procedures, matrix, BUSHKALOTE_LABELS),
+           BUSHKALOTE_SUCCESS, 1);
+    expect_true("the pair is gone", matrix[0] == 0xe && matrix[1] == 0x1 && matrix[2] == 0x1 && matrix[3] == 0x1);
+
+    /* From slices the same sheet comes. */
+    for (size_t i = 0; i < rows; i++) {
+        kinds[i] = records[i].kind;
+        xs[i] = records[i].x;
+        ys[i] = records[i].y;
+    }
+    memset(saved, '#', sizeof saved);
+    expect("save from slices", save(rows, procedures, length), BUSHKALOTE_SUCCESS, (uint32_t)length);
+    expect_true("the changed sheet from slices", memcmp(saved, changed, length) == 0 && saved[length] == '#');
+
+    /* Refusals leave the bytes as they were: 14 where they are too few, 15 where a number is too long for a sheet. */
+    memset(saved, '#', sizeof saved);
+    expect("saving in too few bytes", save(rows, procedures, length - 1), BUSHKALOTE_SHORT_BYTES, 0);
+    xs[7] = 10000;
+    reply = save(rows, procedures, BUSHKALOTE_WRITTEN_BYTES);
+    expect("an x above 9,999", reply, BUSHKALOTE_LONG_NUMBER, 7);
+    expect_true("row 7 is meant", xs[BUSHKALOTE_VALUE(reply)] > 9999 || ys[BUSHKALOTE_VALUE(reply)] > 9999);
+    xs[7] = 3;
+    roots[0] = 10000;
+    reply = save(rows, procedures, BUSHKALOTE_WRITTEN_BYTES);
+    expect("a root above 9,999", reply, BUSHKALOTE_LONG_NUMBER, 0);
+    expect_true("procedure 0 is meant", xs[BUSHKALOTE_VALUE(reply)] <= 9999 && ys[BUSHKALOTE_VALUE(reply)] <= 9999);
+    roots[0] = 9;
+    kinds[4] = 7;
+    expect("saving a kind above 6", save(rows, procedures, BUSHKALOTE_WRITTEN_BYTES), BUSHKALOTE_UNKNOWN_KIND, 4);
+    expect("saving slices of unequal length",
+           bushkalote_write_sheet(kinds, 10, xs, 10, ys, 9, roots, 1, saved, BUSHKALOTE_WRITTEN_BYTES),
+           BUSHKALOTE_WRONG_SIZES, 0);
+    expect("saving too many rows",
+           bushkalote_write_rows(records, BUSHKALOTE_ROWS + 1, roots, 1, saved, BUSHKALOTE_WRITTEN_BYTES),
+           BUSHKALOTE_WRONG_SIZES, 0);
+    expect_true("the saved bytes are unchanged", all_saved('#'));
+
+    /* A recipe that is not finished is saved too: only the analysis refuses it. */
+    expect("saving nothing", save(0, 0, 0), BUSHKALOTE_SUCCESS, 0);
+    kinds[0] = 6;
+    xs[0] = 5;
+    expect("saving a call of a procedure that is not there yet", save(1, 0, BUSHKALOTE_WRITTEN_BYTES),
+           BUSHKALOTE_SUCCESS, 11);
+    expect_true("the call", memcmp(saved, "R\tcall\t5\t0\n#", 12) == 0);
 }
 
 int main(void)
@@ -230,6 +343,7 @@ int main(void)
     expect("just enough room", read_text(whole_case, 10, 1), BUSHKALOTE_SUCCESS, 10 + 65536 * 1);
 
     on_records();
+    edited_and_saved();
 
     if (differences != 0) {
         fprintf(stderr, "%d differences\n", differences);

@@ -24,9 +24,11 @@ _Static_assert(BUSHKALOTE_UNUSED == 7, "a row not used");
 _Static_assert(BUSHKALOTE_LONG_SHEET == 11, "a long sheet");
 _Static_assert(BUSHKALOTE_WRONG_FORM == 12, "a line of wrong form");
 _Static_assert(BUSHKALOTE_NO_ROOM == 13, "no room");
+_Static_assert(BUSHKALOTE_SHORT_BYTES == 14, "too few bytes");
 _Static_assert(BUSHKALOTE_LONG_LISTING == 14, "a long listing");
-#if BUSHKALOTE_VERSION < 100
-#error "panel.h is older than its first version"
+_Static_assert(BUSHKALOTE_LONG_NUMBER == 15, "a long number");
+#if BUSHKALOTE_VERSION < 200
+#error "panel.h is older than the entries that write"
 #endif
 
 static int differences = 0;
@@ -68,6 +70,7 @@ static const char one_pair[] = "pairs\t1\trounds\t1\texact\n0\t0\n";
 
 static uint64_t matrix[BUSHKALOTE_LABELS];
 static uint8_t bytes[BUSHKALOTE_LISTING_BYTES];
+static uint8_t text[BUSHKALOTE_WRITTEN_BYTES];
 
 static void read_and_listed(void)
 {
@@ -136,6 +139,73 @@ static void told_apart(void)
     expect_bytes("the records' text", bytes, one_pair, length);
 }
 
+/* True if the text is as it was filled. */
+static int unwritten(void)
+{
+    for (size_t i = 0; i < sizeof text; i++)
+        if (text[i] != '#')
+            return 0;
+    return 1;
+}
+
+/* The sheet above, of 63 bytes, from the rows and roots that it is read into. */
+static void written(void)
+{
+    const size_t length = sizeof sheet - 1;
+    uint8_t k[5] = {1, 4, 6, 2, 1};
+    uint16_t x[5] = {0, 0, 1, 1, 1}, y[5] = {0, 0, 0, 2, 0}, p[2] = {3, 4};
+    bushkalote_row r[5];
+
+    /* The byte behind a record's kind has no meaning. */
+    memset(r, 0x77, sizeof r);
+    for (size_t i = 0; i < 5; i++) {
+        r[i].kind = k[i];
+        r[i].x = x[i];
+        r[i].y = y[i];
+    }
+    memset(text, '#', sizeof text);
+    expect("a writing", bushkalote_write_sheet(k, 5, x, 5, y, 5, p, 2, text, sizeof text), 63);
+    expect_bytes("the sheet", text, sheet, length);
+    expect("the byte beyond it", text[length], '#');
+    memset(text, '#', sizeof text);
+    expect("a writing of records", bushkalote_write_rows(r, 5, p, 2, text, 63), 63);
+    expect_bytes("the sheet of records", text, sheet, length);
+    expect("the byte beyond that", text[length], '#');
+    expect("ys, then xs", bushkalote_write_sheet(k, 5, y, 5, x, 5, p, 2, text, sizeof text), 63);
+    expect_bytes("their fourth row", text + 34, "R\tseq\t2\t1\n", 10);
+
+    /* Nothing at all is a sheet of no bytes; a root alone is one, whether there is such a row or not. */
+    memset(text, '#', sizeof text);
+    expect("no recipe", bushkalote_write_sheet(k, 0, x, 0, y, 0, p, 0, text, sizeof text), 0);
+    expect("no records", bushkalote_write_rows(r, 0, p, 0, text, 0), 0);
+    expect("nothing is written", unwritten(), 1);
+    expect("roots alone", bushkalote_write_rows(r, 0, p, 2, text, sizeof text), 8);
+    expect_bytes("the roots' sheet", text, "P\t3\nP\t4\n#", 9);
+
+    /* Refused, and nothing written. */
+    memset(text, '#', sizeof text);
+    expect("one byte too few", bushkalote_write_sheet(k, 5, x, 5, y, 5, p, 2, text, 62), 0xe00000000);
+    expect("one byte too few for records", bushkalote_write_rows(r, 5, p, 2, text, 62), 0xe00000000);
+    expect("no bytes", bushkalote_write_rows(r, 5, p, 2, text, 0), 0xe00000000);
+    expect("kinds too short", bushkalote_write_sheet(k, 4, x, 5, y, 5, p, 2, text, sizeof text), 0x100000000);
+    expect("xs too short", bushkalote_write_sheet(k, 5, x, 4, y, 5, p, 2, text, sizeof text), 0x100000000);
+    expect("ys too short", bushkalote_write_sheet(k, 5, x, 5, y, 4, p, 2, text, sizeof text), 0x100000000);
+    /* 15 with a procedure; then with the lowest row, by its y, which a step does not use, and by its x; then 3. */
+    p[1] = 10000;
+    expect("a long root", bushkalote_write_sheet(k, 5, x, 5, y, 5, p, 2, text, sizeof text), 0xf00000001);
+    expect("a long root of records", bushkalote_write_rows(r, 5, p, 2, text, sizeof text), 0xf00000001);
+    y[4] = r[4].y = 10000;
+    expect("a long y", bushkalote_write_sheet(k, 5, x, 5, y, 5, p, 2, text, sizeof text), 0xf00000004);
+    expect("a record's long y", bushkalote_write_rows(r, 5, p, 2, text, sizeof text), 0xf00000004);
+    x[3] = r[3].x = 10000;
+    expect("a long x", bushkalote_write_sheet(k, 5, x, 5, y, 5, p, 2, text, 0), 0xf00000003);
+    expect("a record's long x", bushkalote_write_rows(r, 5, p, 2, text, 0), 0xf00000003);
+    k[4] = r[4].kind = 7;
+    expect("a kind above 6", bushkalote_write_sheet(k, 5, x, 5, y, 5, p, 2, text, sizeof text), 0x300000004);
+    expect("a record's kind above 6", bushkalote_write_rows(r, 5, p, 2, text, sizeof text), 0x300000004);
+    expect("the bytes are as they were", unwritten(), 1);
+}
+
 /* The seven words, in the order of their kinds; no procedure. */
 static void words(void)
 {
@@ -148,6 +218,8 @@ static void words(void)
     expect("seven words",
            bushkalote_read_sheet((const uint8_t *)lines, sizeof lines - 1, k, 7, x, 7, y, 7, p, 1), 7);
     expect_bytes("their kinds", k, due, sizeof k);
+    expect("seven words again", bushkalote_write_sheet(k, 7, x, 7, y, 7, p, 0, text, sizeof text), sizeof lines - 1);
+    expect_bytes("their lines", text, lines, sizeof lines - 1);
 }
 
 /* As many procedures as there are rows, each of them skip; a chain of loops as long as it may be; as many bytes. */
@@ -176,6 +248,27 @@ static void ceilings(void)
     expect("65,537 bytes", bushkalote_read_rows(lines, 65537, loops, 1024, roots, 64), 0xb00000000);
 }
 
+/* The longest sheet that is written: 1,024 times 19 bytes and 64 times 7. */
+static void longest(void)
+{
+    static bushkalote_row waits[1025];
+    static uint16_t roots[65];
+
+    for (size_t i = 0; i < 1025; i++)
+        waits[i] = (bushkalote_row){5, 9999, 9999};
+    for (size_t i = 0; i < 65; i++)
+        roots[i] = 9999;
+    expect("its bytes", sizeof text, 19904);
+    memset(text, '#', sizeof text);
+    expect("one byte less", bushkalote_write_rows(waits, 1024, roots, 64, text, sizeof text - 1), 0xe00000000);
+    expect("1,025 rows to write", bushkalote_write_rows(waits, 1025, roots, 64, text, sizeof text), 0x100000000);
+    expect("65 roots to write", bushkalote_write_rows(waits, 1024, roots, 65, text, sizeof text), 0x100000000);
+    expect("nothing is written of it", unwritten(), 1);
+    expect("the longest sheet", bushkalote_write_rows(waits, 1024, roots, 64, text, sizeof text), 19904);
+    expect_bytes("its first line", text, "R\tfinish\t9999\t9999\n", 19);
+    expect_bytes("its last line", text + 19897, "P\t9999\n", 7);
+}
+
 /* The version's text is its number. */
 static void version(void)
 {
@@ -191,8 +284,10 @@ int main(void)
 {
     read_and_listed();
     told_apart();
+    written();
     words();
     ceilings();
+    longest();
     version();
     if (differences != 0)
         fprintf(stderr, "%d differences\n", differences);

@@ -1,13 +1,14 @@
 /*
  * The panel's entries over standard input and output, for a caller that can't
- * link the library itself. A request is one byte (a, r or l, for analyse,
- * read_sheet and list_pairs, and A, R or L for the same on records), the
- * slices' lengths as 32-bit numbers in the order of the parameters, then the
- * slices' contents in that order. The answer is the reply as a 64-bit number
- * and then the contents of every slice, those that the entry may only read as
- * well. All numbers are little-endian, and a record is the 6 bytes that it has
- * in memory. A fence stands before and after every slice; ends with status 1
- * if an entry wrote into one, and with 0 at the end of its input.
+ * link the library itself. A request is one byte (a, r, l or w, for analyse,
+ * read_sheet, list_pairs and write_sheet, and A, R, L or W for the same on
+ * records), the slices' lengths as 32-bit numbers in the order of the
+ * parameters, then the slices' contents in that order. The answer is the reply
+ * as a 64-bit number and then the contents of every slice, those that the
+ * entry may only read as well. All numbers are little-endian, and a record is
+ * the 6 bytes that it has in memory. A fence stands before and after every
+ * slice; ends with status 1 if an entry wrote into one, and with 0 at the end
+ * of its input.
  */
 #include <stdint.h>
 #include <stdio.h>
@@ -118,6 +119,15 @@ int main(void) {
             take_slices("6281");
             answer(bushkalote_list_rows(s[0].at, s[0].len, s[1].at, s[1].len, s[2].at, s[2].len, s[3].at,
                                         s[3].len));
+            break;
+        case 'w':
+            take_slices("12221");
+            answer(bushkalote_write_sheet(s[0].at, s[0].len, s[1].at, s[1].len, s[2].at, s[2].len, s[3].at,
+                                          s[3].len, s[4].at, s[4].len));
+            break;
+        case 'W':
+            take_slices("621");
+            answer(bushkalote_write_rows(s[0].at, s[0].len, s[1].at, s[1].len, s[2].at, s[2].len));
             break;
         default:
             fail("no such entry");

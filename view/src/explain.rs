@@ -16,7 +16,9 @@ const CHANGED: &str = "The sheet does not show why any more; has it changed sinc
 const LENT_MATRIX: &str =
     "The program lends a matrix that is large enough, so that no sheet is refused with this.";
 const LENT_BYTES: &str =
-    "The program lends bytes for the longest listing, so that no sheet is refused with this.";
+    "The program lends bytes for the longest listing and writes no sheet, so that no sheet is refused with this.";
+const LONG_NUMBER: &str =
+    "Numbers on a sheet go up to 9,999. Only rows and roots that are to be written can have others, so that no sheet is refused with this.";
 const ROWS_ALLOWED: &str = "A recipe has 1 to 1,024 rows, the lines that begin with R.";
 const PROCEDURES_ALLOWED: &str =
     "A recipe has 1 to 64 procedures, the lines behind the rows that begin with P; the first is main.";
@@ -39,6 +41,7 @@ pub fn explain(name: &str, bytes: &[u8], size: u64, number: usize, place: usize)
         12 => malformed(&sheet, place),
         13 => no_room(&sheet, place),
         14 => Some(indented(LENT_BYTES)),
+        15 => Some(indented(LONG_NUMBER)),
         _ => None,
     };
     let found = found.unwrap_or_else(|| indented(CHANGED));
@@ -59,13 +62,15 @@ fn words(number: usize, place: usize) -> String {
         11 => "a sheet that is too long",
         12 => "a malformed line",
         13 => "a row or procedure too many",
-        14 => "a listing that does not fit",
+        14 => "a listing or a sheet that does not fit",
+        15 => "a number that no sheet can hold",
         _ => "for a reason that has no words here",
     };
     let at = match number {
         1 | 2 | 11 | 14 => String::new(),
         3 | 4 | 6 | 7 => format!(", row {place}"),
         5 => format!(", procedure {place}"),
+        15 => format!(", row or procedure {place}"),
         12 | 13 => line_words(place),
         _ => format!(", place {place}"),
     };

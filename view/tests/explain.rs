@@ -673,8 +673,14 @@ fn what_no_sheet_causes() {
     );
     assert_eq!(
         explained(b"", 14, 0),
-        "s: refused, a listing that does not fit (14)\n\
-         \x20 The program lends bytes for the longest listing, so that no sheet is refused with this.\n"
+        "s: refused, a listing or a sheet that does not fit (14)\n\
+         \x20 The program lends bytes for the longest listing and writes no sheet, so that no sheet is refused with this.\n"
+    );
+    assert_eq!(
+        explained(b"R\tskip\t0\t0\nP\t0\n", 15, 3),
+        "s: refused, a number that no sheet can hold (15), row or procedure 3\n\
+         \x20 Numbers on a sheet go up to 9,999. Only rows and roots that are to be written can have others, \
+         so that no sheet is refused with this.\n"
     );
     assert_eq!(
         explained(b"", 99, 5),
@@ -715,7 +721,7 @@ fn any_bytes() {
         for _ in 0..next(40) {
             sheet.extend(pieces[next(16) as usize]);
         }
-        let number = [1, 3, 4, 5, 6, 7, 11, 12, 13][next(9) as usize];
+        let number = [1, 2, 3, 4, 5, 6, 7, 11, 12, 13, 14, 15][next(12) as usize];
         let text = explained(&sheet, number, next(4) as usize);
         assert!(text.starts_with("s: refused, ") && text.ends_with('\n'));
         assert!(text.lines().all(|line| line.len() < 200));

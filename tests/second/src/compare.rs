@@ -6,9 +6,9 @@
 
 use crate::dice::Dice;
 use crate::panel::{refused, shown, Panel};
-use crate::table::{judge, refusal, Row, Table};
+use crate::table::{judge, refusal, Refusal, Row, Table};
 use crate::{gen, sheet, work_out, Answer};
-use crate::{LABELS, LISTING_BYTES, PROCEDURES, ROWS};
+use crate::{LABELS, LISTING_BYTES, PROCEDURES, ROWS, WRITTEN_BYTES};
 
 /// A difference, and what it was found on.
 pub struct Fault {
@@ -77,10 +77,10 @@ fn same<T: PartialEq + std::fmt::Debug>(
     ))
 }
 
-/// What reading must leave in a lent slice: the values read, then what was there.
-fn laid_over<T: Copy>(read: &[T], before: &[T]) -> Vec<T> {
+/// What a success must leave in a lent slice: the new values, then what was there.
+fn laid_over<T: Copy>(new: &[T], before: &[T]) -> Vec<T> {
     let mut all = before.to_vec();
-    all[..read.len()].copy_from_slice(read);
+    all[..new.len()].copy_from_slice(new);
     all
 }
 
@@ -308,12 +308,86 @@ fn listed(
     }
 }
 
+/// Compares the writing of a table into `room` lent bytes, and the reading of
+/// what was written, which must give the table again.
+pub fn writing(
+    panel: &dyn Panel,
+    dice: &mut Dice,
+    table: &Table,
+    room: usize,
+) -> Result<(), String> {
+    let due = sheet::write(table, room);
+    let given = table.clone();
+    let entry = format!("write_sheet with {room} bytes");
+    wrote(&entry, dice, &due, room, |bytes| {
+        panel.write_sheet(&given.kinds, &given.xs, &given.ys, &given.roots, bytes)
+    })?;
+    unwritten(&entry, &given, table)?;
+    if let Some(rows) = table.records() {
+        let entry = format!("write_rows with {room} bytes");
+        wrote(&entry, dice, &due, room, |bytes| {
+            panel.write_rows(&rows, &given.roots, bytes)
+        })?;
+        unwritten(&entry, &Table::of_records(&rows, &given.roots), table)?;
+    }
+    let Ok(bytes) = due else {
+        return Ok(());
+    };
+    if sheet::read(&bytes, ROWS, PROCEDURES).as_ref() != Ok(table) {
+        return Err("another table is read than was written".to_string());
+    }
+    let (rows, procedures) = (table.rows(), table.roots.len());
+    reading(panel, dice, &bytes, [rows, rows, rows, procedures])
+}
+
+fn wrote(
+    entry: &str,
+    dice: &mut Dice,
+    due: &Result<Vec<u8>, Refusal>,
+    room: usize,
+    ask: impl Fn(&mut [u8]) -> u64,
+) -> Result<(), String> {
+    let before = pattern_u8(room, dice);
+    let mut bytes = before.clone();
+    let reply = ask(&mut bytes);
+    let (want, new) = match due {
+        Ok(sheet) => (sheet.len() as u64, &sheet[..]),
+        Err(refusal) => (refused(*refusal), &[][..]),
+    };
+    same_reply(entry, reply, want)?;
+    same(entry, "bytes", &bytes, &laid_over(new, &before))
+}
+
+/// What was read of a sheet must be written as the same bytes.
+fn written_back(
+    panel: &dyn Panel,
+    dice: &mut Dice,
+    bytes: &[u8],
+    read: &Table,
+) -> Result<(), String> {
+    if sheet::write(read, bytes.len()).as_deref() != Ok(bytes) {
+        return Err("another sheet is written than was read".to_string());
+    }
+    writing(panel, dice, read, bytes.len())
+}
+
+/// Rooms for the sheet of a table: none, each length near the one that is
+/// needed, and more than is ever needed.
+pub fn rooms(table: &Table) -> Vec<usize> {
+    let needed = sheet::write(table, usize::MAX).map_or(16, |bytes| bytes.len());
+    let near = needed.saturating_sub(2)..=needed + 2;
+    [0].into_iter()
+        .chain(near)
+        .chain([WRITTEN_BYTES, WRITTEN_BYTES + 40])
+        .collect()
+}
+
 /// The second program's answer, if the table is admitted.
 pub fn answer(table: &Table) -> Option<Answer> {
     judge(table, LABELS).ok().map(|()| work_out(table))
 }
 
-/// Compares analysis and listing of a table with several lengths of what is lent.
+/// Compares analysis, listing and writing of a table with several lengths of what is lent.
 pub fn table(panel: &dyn Panel, dice: &mut Dice, table: &Table) -> Result<(), String> {
     let answer = answer(table);
     let answer = answer.as_ref();
@@ -334,7 +408,9 @@ pub fn table(panel: &dyn Panel, dice: &mut Dice, table: &Table) -> Result<(), St
         _ => LISTING_BYTES,
     };
     let n = words(dice);
-    listing(panel, dice, table, answer, n, room)
+    listing(panel, dice, table, answer, n, room)?;
+    let room = dice.one_of(&rooms(table));
+    writing(panel, dice, table, room)
 }
 
 /// Compares the reading of a sheet, and what follows where it is read.
@@ -352,7 +428,10 @@ pub fn sheet(panel: &dyn Panel, dice: &mut Dice, bytes: &[u8]) -> Result<(), Str
         reading(panel, dice, bytes, room)?;
     }
     match sheet::read(bytes, ROWS, PROCEDURES) {
-        Ok(read) => table(panel, dice, &read),
+        Ok(read) => {
+            written_back(panel, dice, bytes, &read)?;
+            table(panel, dice, &read)
+        }
         Err(_) => Ok(()),
     }
 }
@@ -360,28 +439,23 @@ pub fn sheet(panel: &dyn Panel, dice: &mut Dice, bytes: &[u8]) -> Result<(), Str
 /// One generated comparison.
 pub fn one(panel: &dyn Panel, seed: u64) -> Result<(), Fault> {
     let mut dice = Dice::new(seed);
-    if dice.chance(60) {
-        let bytes = gen::sheet(&mut dice);
-        sheet(panel, &mut dice, &bytes).map_err(|what| Fault { what, input: bytes })
-    } else {
-        let plain = gen::table(&mut dice);
-        table(panel, &mut dice, &plain).map_err(|what| Fault {
-            what,
-            input: written(&plain),
-        })
-    }
+    let plain = match dice.weighted(&[55, 30, 15]) {
+        0 => {
+            let bytes = gen::sheet(&mut dice);
+            return sheet(panel, &mut dice, &bytes).map_err(|what| Fault { what, input: bytes });
+        }
+        1 => gen::table(&mut dice),
+        _ => gen::to_write(&mut dice),
+    };
+    table(panel, &mut dice, &plain).map_err(|what| Fault {
+        what,
+        input: shown_as_sheet(&plain),
+    })
 }
 
 /// A table as its sheet, or by its fields where no sheet stands for it.
-fn written(table: &Table) -> Vec<u8> {
-    let even = table.xs.len() == table.kinds.len() && table.ys.len() == table.kinds.len();
-    if even {
-        let bytes = sheet::spell(table);
-        if sheet::read(&bytes, ROWS, PROCEDURES).as_ref() == Ok(table) {
-            return bytes;
-        }
-    }
-    format!("{table:?}\n").into_bytes()
+fn shown_as_sheet(table: &Table) -> Vec<u8> {
+    sheet::write(table, WRITTEN_BYTES).unwrap_or_else(|_| format!("{table:?}\n").into_bytes())
 }
 
 /// The seed of the i-th case of a run.

@@ -129,4 +129,19 @@ impl Panel for Fenced {
     fn list_rows(&self, rows: &[Row], roots: &[u16], matrix: &mut [u64], bytes: &mut [u8]) -> u64 {
         fenced!(self.0, list_rows, [rows, roots], [matrix, bytes])
     }
+
+    fn write_sheet(
+        &self,
+        kinds: &[u8],
+        xs: &[u16],
+        ys: &[u16],
+        roots: &[u16],
+        bytes: &mut [u8],
+    ) -> u64 {
+        fenced!(self.0, write_sheet, [kinds, xs, ys, roots], [bytes])
+    }
+
+    fn write_rows(&self, rows: &[Row], roots: &[u16], bytes: &mut [u8]) -> u64 {
+        fenced!(self.0, write_rows, [rows, roots], [bytes])
+    }
 }

@@ -4,7 +4,7 @@ use crate::dice::Dice;
 use crate::samples;
 use crate::sheet::{spell, KEYWORDS};
 use crate::table::Table;
-use crate::{PROCEDURES, ROWS, SHEET_BYTES};
+use crate::{LONGEST_NUMBER, PROCEDURES, ROWS, SHEET_BYTES};
 
 /// Whom the calls of a generated recipe call.
 #[derive(Clone, Copy)]
@@ -726,6 +726,72 @@ pub fn table(dice: &mut Dice) -> Table {
             }
         }
         _ => table = at_the_ceilings(dice),
+    }
+    table
+}
+
+/// A number that a field of a sheet holds, of each length as often.
+fn fitting(dice: &mut Dice) -> u16 {
+    let (low, high) = dice.one_of(&[(0, 9), (10, 99), (100, 999), (1000, 9999)]);
+    match dice.below(4) {
+        0 => low,
+        1 => high,
+        _ => dice.between(low as usize, high as usize) as u16,
+    }
+}
+
+/// A table to be written, writable or not. Its operands are of every length,
+/// whatever their kinds allow; it may be empty, too large, uneven, and have
+/// unknown kinds and numbers that no field holds, several of them together.
+pub fn to_write(dice: &mut Dice) -> Table {
+    let size = |dice: &mut Dice, most: usize| match dice.weighted(&[10, 50, 25, 5, 5, 5]) {
+        0 => 0,
+        1 => dice.between(1, 6),
+        2 => dice.between(1, most.min(60)),
+        3 => most - 1,
+        4 => most,
+        _ => most + dice.one_of(&[0, 0, 0, 0, 1, 2]),
+    };
+    let rows = size(dice, ROWS);
+    let longest = dice.chance(20);
+    let mut table = Table::default();
+    for _ in 0..rows {
+        let (x, y) = (fitting(dice), fitting(dice));
+        if longest {
+            table.push(5, LONGEST_NUMBER.into(), LONGEST_NUMBER.into());
+        } else {
+            table.push(dice.below(7) as u8, x.into(), y.into());
+        }
+    }
+    table.roots = (0..size(dice, PROCEDURES)).map(|_| fitting(dice)).collect();
+    if dice.chance(40) {
+        for _ in 0..dice.between(1, 4) {
+            let long = dice.one_of(&[10_000, 10_000, 10_001, 16_384, 32_768, 65_535]);
+            let held = match dice.below(4) {
+                0 => &mut table.xs,
+                1 => &mut table.ys,
+                _ => &mut table.roots,
+            };
+            if !held.is_empty() {
+                let at = dice.below(held.len());
+                held[at] = long;
+            }
+        }
+    }
+    if rows > 0 && dice.chance(15) {
+        for _ in 0..dice.between(1, 3) {
+            table.kinds[dice.below(rows)] = dice.one_of(&[7, 7, 8, 64, 128, 255]);
+        }
+    }
+    if dice.chance(8) {
+        match dice.below(6) {
+            0 => table.kinds.push(0),
+            1 => table.xs.push(0),
+            2 => table.ys.push(0),
+            3 => drop(table.kinds.pop()),
+            4 => drop(table.xs.pop()),
+            _ => drop(table.ys.pop()),
+        }
     }
     table
 }

@@ -4,7 +4,8 @@
 //! and the least solution of the rules is found by a worklist over constraints
 //! on sets. The number of rounds is counted beside it, naively: every body is
 //! worked out again in each round, and whole sets are compared. Where the
-//! worklist and the last round differ, the program stops with a message.
+//! worklist and the last round differ, the program stops with a message. A
+//! table is written as a sheet line by line.
 
 pub mod calls;
 pub mod compare;
@@ -33,6 +34,10 @@ pub const LABELS: usize = 64;
 pub const SHEET_BYTES: usize = 65_536;
 /// A listing has at most so many bytes.
 pub const LISTING_BYTES: usize = 11_858;
+/// A sheet that is written has at most so many bytes.
+pub const WRITTEN_BYTES: usize = 19_904;
+/// A field of a sheet holds numbers up to this one.
+pub const LONGEST_NUMBER: u16 = 9_999;
 
 /// What the analysis of an admitted table gives.
 pub struct Answer {

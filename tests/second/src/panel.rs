@@ -1,4 +1,4 @@
-//! The six entries of the static library, as a trait: the same comparisons
+//! The eight entries of the static library, as a trait: the same comparisons
 //! run on the library and on any other version of the same work.
 //!
 //! A reply is one number: the refusal's number × 2³² + a value, 0 for success.
@@ -39,6 +39,17 @@ pub trait Panel {
     fn read_rows(&self, bytes: &[u8], rows: &mut [Row], roots: &mut [u16]) -> u64;
 
     fn list_rows(&self, rows: &[Row], roots: &[u16], matrix: &mut [u64], bytes: &mut [u8]) -> u64;
+
+    fn write_sheet(
+        &self,
+        kinds: &[u8],
+        xs: &[u16],
+        ys: &[u16],
+        roots: &[u16],
+        bytes: &mut [u8],
+    ) -> u64;
+
+    fn write_rows(&self, rows: &[Row], roots: &[u16], bytes: &mut [u8]) -> u64;
 }
 
 /// The reply for a refusal.
@@ -137,6 +148,26 @@ mod linked {
             roots_len: usize,
             matrix: *mut u64,
             matrix_len: usize,
+            bytes: *mut u8,
+            bytes_len: usize,
+        ) -> u64;
+        pub fn bushkalote_write_sheet(
+            kinds: *const u8,
+            kinds_len: usize,
+            xs: *const u16,
+            xs_len: usize,
+            ys: *const u16,
+            ys_len: usize,
+            roots: *const u16,
+            roots_len: usize,
+            bytes: *mut u8,
+            bytes_len: usize,
+        ) -> u64;
+        pub fn bushkalote_write_rows(
+            rows: *const Row,
+            rows_len: usize,
+            roots: *const u16,
+            roots_len: usize,
             bytes: *mut u8,
             bytes_len: usize,
         ) -> u64;
@@ -257,6 +288,43 @@ impl Panel for Library {
                 roots.len(),
                 matrix.as_mut_ptr(),
                 matrix.len(),
+                bytes.as_mut_ptr(),
+                bytes.len(),
+            )
+        }
+    }
+
+    fn write_sheet(
+        &self,
+        kinds: &[u8],
+        xs: &[u16],
+        ys: &[u16],
+        roots: &[u16],
+        bytes: &mut [u8],
+    ) -> u64 {
+        unsafe {
+            linked::bushkalote_write_sheet(
+                kinds.as_ptr(),
+                kinds.len(),
+                xs.as_ptr(),
+                xs.len(),
+                ys.as_ptr(),
+                ys.len(),
+                roots.as_ptr(),
+                roots.len(),
+                bytes.as_mut_ptr(),
+                bytes.len(),
+            )
+        }
+    }
+
+    fn write_rows(&self, rows: &[Row], roots: &[u16], bytes: &mut [u8]) -> u64 {
+        unsafe {
+            linked::bushkalote_write_rows(
+                rows.as_ptr(),
+                rows.len(),
+                roots.as_ptr(),
+                roots.len(),
                 bytes.as_mut_ptr(),
                 bytes.len(),
             )

@@ -212,4 +212,19 @@ impl Panel for Remote {
     fn list_rows(&self, rows: &[Row], roots: &[u16], matrix: &mut [u64], bytes: &mut [u8]) -> u64 {
         asked!(self, b'L', [rows, roots], [matrix, bytes])
     }
+
+    fn write_sheet(
+        &self,
+        kinds: &[u8],
+        xs: &[u16],
+        ys: &[u16],
+        roots: &[u16],
+        bytes: &mut [u8],
+    ) -> u64 {
+        asked!(self, b'w', [kinds, xs, ys, roots], [bytes])
+    }
+
+    fn write_rows(&self, rows: &[Row], roots: &[u16], bytes: &mut [u8]) -> u64 {
+        asked!(self, b'W', [rows, roots], [bytes])
+    }
 }

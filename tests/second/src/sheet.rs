@@ -1,6 +1,6 @@
-//! The sheet: reading it line by line, and spelling a table as one.
+//! The sheet: reading it line by line, and writing a table as one.
 
-use crate::table::{refusal, Refusal, Table};
+use crate::table::{refusal, writable, Refusal, Table};
 use crate::SHEET_BYTES;
 
 pub const KEYWORDS: [&str; 7] = ["skip", "step", "seq", "loop", "async", "finish", "call"];
@@ -76,4 +76,14 @@ pub fn spell(table: &Table) -> Vec<u8> {
         text.push_str(&format!("P\t{root}\n"));
     }
     text.into_bytes()
+}
+
+/// The sheet that writing a table into `room` bytes gives.
+pub fn write(table: &Table, room: usize) -> Result<Vec<u8>, Refusal> {
+    writable(table)?;
+    let bytes = spell(table);
+    if bytes.len() > room {
+        return Err(refusal(14, 0));
+    }
+    Ok(bytes)
 }

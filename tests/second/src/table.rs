@@ -1,6 +1,6 @@
 //! The recipe table and its judge.
 
-use crate::{LABELS, PROCEDURES, ROWS};
+use crate::{LABELS, LONGEST_NUMBER, PROCEDURES, ROWS};
 
 /// Kinds, x and y of the rows, and the roots of the procedures.
 #[derive(Clone, Debug, PartialEq, Eq, Default)]
@@ -76,6 +76,25 @@ impl Table {
             3..=5 => vec![self.xs[row] as usize],
             _ => vec![],
         }
+    }
+}
+
+/// Tries the refusals 1, 3 and 15 of a table that is to be written. What its
+/// kind does with an operand has no say here.
+pub fn writable(table: &Table) -> Result<(), Refusal> {
+    let rows = table.rows();
+    let even = table.xs.len() == rows && table.ys.len() == rows;
+    if !even || rows > ROWS || table.roots.len() > PROCEDURES {
+        return Err(refusal(1, 0));
+    }
+    if let Some(row) = table.kinds.iter().position(|&k| k > 6) {
+        return Err(refusal(3, row));
+    }
+    let long = |&n: &u16| n > LONGEST_NUMBER;
+    let in_rows = (0..rows).find(|&r| long(&table.xs[r]) || long(&table.ys[r]));
+    match in_rows.or_else(|| table.roots.iter().position(long)) {
+        Some(place) => Err(refusal(15, place)),
+        None => Ok(()),
     }
 }
 

@@ -1,10 +1,10 @@
 //! The edge of every rule, case by case with the reply that is due: the judge's refusals at first, middle and last place, the
-//! operands of each kind, the sheet's form at first, middle and last line, the ceilings and the lent room. Each case runs on
-//! slices and on records, by every version at hand, and what is lent is looked at afterwards.
+//! operands of each kind, the sheet's form at first, middle and last line, the ceilings and the lent room, and what can be
+//! written. Each case runs on slices and on records, by every version at hand, and what is lent is looked at afterwards.
 
 mod common;
 
-use common::{holds, note_if_no_library, prints, reads, refused};
+use common::{holds, note_if_no_library, prints, reads, refused, writes};
 use second::samples::{looped, nested};
 use second::table::Table;
 
@@ -384,13 +384,159 @@ fn the_sheet_s_ceilings() {
     prints("65,537 bytes", &more, "refused\t11\t0\n");
 }
 
+#[test]
+fn tables_that_are_written() {
+    #[rustfmt::skip]
+    const WRITTEN: [(&str, &[Row], &[u16], &str); 8] = [
+        ("nothing", &[], &[], ""),
+        ("rows only", &[(0, 0, 0), (1, 63, 0), (2, 0, 1)], &[], "R\tskip\t0\t0\nR\tstep\t63\t0\nR\tseq\t0\t1\n"),
+        ("procedures only", &[], &[0, 9999], "P\t0\nP\t9999\n"),
+        ("rows and a procedure", &[(3, 9, 10), (4, 99, 100)], &[1], "R\tloop\t9\t10\nR\tasync\t99\t100\nP\t1\n"),
+        // None of these is a recipe: operands and roots that are no row, no label or no procedure, and rows that nobody uses.
+        ("a skip's operands", &[(0, 9999, 1)], &[0], "R\tskip\t9999\t1\nP\t0\n"),
+        ("label 64 and a y", &[(1, 64, 7)], &[0], "R\tstep\t64\t7\nP\t0\n"),
+        ("no such procedure", &[(6, 9, 0), (5, 1, 0)], &[0], "R\tcall\t9\t0\nR\tfinish\t1\t0\nP\t0\n"),
+        ("no such root", &[(0, 0, 0)], &[1, 0, 0], "R\tskip\t0\t0\nP\t1\nP\t0\nP\t0\n"),
+    ];
+    for (name, rows, roots, sheet) in WRITTEN {
+        writes(name, &table(rows, roots), Ok(sheet));
+    }
+    let base = "R\tstep\t0\t0\nR\tasync\t0\t0\nR\tstep\t1\t0\nR\tseq\t1\t2\nR\tcall\t1\t0\nR\tskip\t0\t0\n\
+                R\tloop\t5\t0\nR\tfinish\t6\t0\nP\t3\nP\t4\nP\t7\n";
+    writes("base", &table(&BASE, &ROOTS), Ok(base));
+}
+
+#[test]
+fn numbers_that_are_written() {
+    for n in [0, 1, 9, 10, 11, 99, 100, 101, 999, 1000, 1001, 9998, 9999] {
+        for (kind, keyword) in ["skip", "step", "seq", "loop", "async", "finish", "call"]
+            .into_iter()
+            .enumerate()
+        {
+            let kind = kind as u8;
+            let as_x = format!("R\t{keyword}\t{n}\t0\nP\t0\n");
+            writes(&as_x, &table(&[(kind, n, 0)], &[0]), Ok(&as_x));
+            let as_y = format!("R\t{keyword}\t0\t{n}\nP\t0\n");
+            writes(&as_y, &table(&[(kind, 0, n)], &[0]), Ok(&as_y));
+        }
+        let as_root = format!("R\tskip\t0\t0\nP\t0\nP\t{n}\n");
+        writes(&as_root, &table(&[(0, 0, 0)], &[0, n]), Ok(&as_root));
+    }
+}
+
+#[test]
+fn numbers_that_no_sheet_holds() {
+    for long in [10_000, 10_001, 16_384, 32_768, u16::MAX] {
+        for at in PLACES {
+            let (kind, x, y) = BASE[at as usize];
+            let due = Err((15, at.into()));
+            // A y that its kind does not use as well.
+            writes("a long x", &with(at, (kind, long, y)), due);
+            writes("a long y", &with(at, (kind, x, long)), due);
+            writes("both long", &with(at, (kind, long, long)), due);
+        }
+        for p in 0..ROOTS.len() {
+            let mut wrong = table(&BASE, &ROOTS);
+            wrong.roots[p] = long;
+            writes("a long root", &wrong, Err((15, p)));
+            wrong.roots[2] = long;
+            writes("another long root behind it", &wrong, Err((15, p)));
+            // A row goes before every procedure.
+            wrong.ys[7] = long;
+            writes("a long root and a long y", &wrong, Err((15, 7)));
+            wrong.xs[3] = long;
+            writes("and a long x", &wrong, Err((15, 3)));
+        }
+        writes("no rows", &table(&[], &[0, 0, long]), Err((15, 2)));
+    }
+    let mut wrong = with(6, (3, 10_000, 0));
+    wrong.ys[4] = 10_000;
+    writes("the lower row has the y", &wrong, Err((15, 4)));
+    wrong.xs[2] = 10_000;
+    writes("the lower row has the x", &wrong, Err((15, 2)));
+}
+
+#[test]
+fn sizes_and_kinds_that_are_not_written() {
+    // The lengths of kinds, xs, ys and roots.
+    const UNEVEN: [(&str, [usize; 4]); 8] = [
+        ("kinds short", [7, 8, 8, 3]),
+        ("xs short", [8, 7, 8, 3]),
+        ("ys short", [8, 8, 7, 3]),
+        ("xs long", [8, 9, 8, 3]),
+        ("ys long", [8, 8, 9, 3]),
+        ("no kinds", [0, 8, 8, 3]),
+        ("no ys", [8, 8, 0, 3]),
+        ("one x and nothing else", [0, 1, 0, 0]),
+    ];
+    for (name, [kinds, xs, ys, roots]) in UNEVEN {
+        let mut uneven = table(&BASE, &ROOTS);
+        uneven.kinds.resize(kinds, 0);
+        uneven.xs.resize(xs, 0);
+        uneven.ys.resize(ys, 0);
+        uneven.roots.resize(roots, 0);
+        writes(name, &uneven, Err((1, 0)));
+    }
+    writes("65 procedures", &skips(65), Err((1, 0)));
+    writes("1,025 rows", &loops(1025), Err((1, 0)));
+    let many = vec![(0, 0, 0); 70_000];
+    writes("70,000 rows", &table(&many, &[0]), Err((1, 0)));
+    writes("70,000 procedures", &table(&[], &[0; 70_000]), Err((1, 0)));
+    for at in PLACES {
+        for kind in [7, 8, 128, 255] {
+            writes("unknown kind", &with(at, (kind, 0, 0)), Err((3, at.into())));
+        }
+    }
+}
+
+#[test]
+fn each_rule_of_writing_is_tried_before_the_next() {
+    // Two faults and more: rows, roots, and the refusal that is due.
+    #[rustfmt::skip]
+    const FAULTS: [(&[Row], &[u16], u32, usize); 6] = [
+        (&[(0, 10_000, 0), (7, 0, 0), (8, 0, 0)], &[10_000], 3, 1),
+        (&[(0, 0, 0), (7, 10_000, 0)], &[0], 3, 1),
+        (&[(0, 0, 0), (0, 0, 10_000), (0, 10_000, 0)], &[10_000], 15, 1),
+        (&[(0, 0, 0), (0, 0, 0)], &[0, 10_000, 65_535], 15, 1),
+        (&[(1, 64, 0), (1, 9999, 9999), (2, 10_000, 9)], &[9], 15, 2),
+        (&[(255, 65_535, 65_535)], &[65_535], 3, 0),
+    ];
+    for (rows, roots, number, place) in FAULTS {
+        let due = Err((number, place));
+        writes(&format!("{rows:?}"), &table(rows, roots), due);
+    }
+    let mut worst = table(&[(255, u16::MAX, u16::MAX); 1025], &[u16::MAX; 65]);
+    writes("everything wrong", &worst, Err((1, 0)));
+    worst.ys.pop();
+    writes("everything wrong, and uneven", &worst, Err((1, 0)));
+}
+
+#[test]
+fn the_longest_sheets() {
+    let row = (5, 9999, 9999);
+    let lines = |rows: usize, procedures: usize| {
+        "R\tfinish\t9999\t9999\n".repeat(rows) + &"P\t9999\n".repeat(procedures)
+    };
+    assert_eq!(lines(1024, 64).len(), second::WRITTEN_BYTES);
+    let most = table(&vec![row; 1024], &[9999; 64]);
+    writes("the longest", &most, Ok(&lines(1024, 64)));
+    let rows = table(&vec![row; 1024], &[]);
+    writes("all rows", &rows, Ok(&lines(1024, 0)));
+    let roots = table(&[], &[9999; 64]);
+    writes("all procedures", &roots, Ok(&lines(0, 64)));
+    let more = table(&vec![row; 1024], &[9999; 65]);
+    writes("one procedure more", &more, Err((1, 0)));
+    let more = table(&vec![row; 1025], &[9999; 64]);
+    writes("one row more", &more, Err((1, 0)));
+}
+
 /// Every entry on the deepest chains runs with so much stack; `cargo run --bin stack` tells how much each takes.
 #[cfg(panel)]
 #[test]
 fn the_deepest_chains_run_with_400_kilobytes_of_stack() {
     use second::panel::Library;
     use second::samples::{spawned, waited, Statement};
-    use second::{compare, dice::Dice, sheet, work_out, LABELS, LISTING_BYTES};
+    use second::{compare, dice::Dice, sheet, work_out, LABELS, LISTING_BYTES, WRITTEN_BYTES};
     let wraps: [fn(usize, Statement) -> Statement; 3] =
         [|_, s| looped(s), |_, s| spawned(s), |_, s| waited(s)];
     for wrap in wraps {
@@ -401,7 +547,8 @@ fn the_deepest_chains_run_with_400_kilobytes_of_stack() {
             let dice = &mut Dice::new(9);
             compare::reading(&Library, dice, &bytes, [1024, 1024, 1024, 64])?;
             compare::analysing(&Library, dice, &deep, Some(&answer), LABELS)?;
-            compare::listing(&Library, dice, &deep, Some(&answer), LABELS, LISTING_BYTES)
+            compare::listing(&Library, dice, &deep, Some(&answer), LABELS, LISTING_BYTES)?;
+            compare::writing(&Library, dice, &deep, WRITTEN_BYTES)
         };
         let thread = std::thread::Builder::new().stack_size(400 << 10).spawn(ask);
         assert_eq!(thread.unwrap().join().unwrap(), Ok(()));

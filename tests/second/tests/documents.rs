@@ -4,13 +4,13 @@
 
 mod common;
 
-use common::{note_if_no_library, on_all, prints, reads, report_program};
+use common::{note_if_no_library, on_all, prints, reads, report_program, writes};
 use second::samples::*;
 use second::table::Table;
 use second::{compare, sheet, work_out, LABELS, LISTING_BYTES, PROCEDURES, ROWS};
 use std::panic::Location;
 
-/// An admitted table, its sheet and what is printed for it.
+/// An admitted table, its sheet, read and written, and what is printed for it.
 #[track_caller]
 fn holds(table: &Table, pairs: &[(usize, usize)], rounds: usize, verdict: &str) {
     let name = Location::caller().to_string();
@@ -22,6 +22,7 @@ fn holds(table: &Table, pairs: &[(usize, usize)], rounds: usize, verdict: &str) 
         [ROWS, ROWS, ROWS, PROCEDURES],
         Ok(table.clone()),
     );
+    writes(&name, table, Ok(std::str::from_utf8(&bytes).unwrap()));
     prints(&name, &bytes, &String::from_utf8_lossy(&due.listing));
 }
 

@@ -5,14 +5,16 @@ mod common;
 
 use common::{note_if_no_library, report_program, run, shown, versions};
 use second::dice::Dice;
-use second::table::judge;
-use second::{compare, gen, printed, sheet, LABELS, PROCEDURES, ROWS};
+use second::table::{judge, writable};
+use second::{compare, gen, printed, sheet, Table, LABELS, PROCEDURES, ROWS};
 use std::collections::BTreeMap;
 
 /// Sheets for the report program: each is a process of its own.
 const PROGRAM_SHEETS: u64 = 600;
 /// Sheets and tables in process.
 const CASES: u64 = 2_000;
+/// Tables that are written into every room.
+const WRITTEN: u64 = 400;
 
 #[test]
 fn the_generator_s_recipes_are_admitted_and_of_many_shapes() {
@@ -73,6 +75,48 @@ fn every_refusal_is_met_often() {
             met >= 50,
             "tables: {number} met {met} times, all: {of_tables:?}"
         );
+    }
+}
+
+#[test]
+fn every_outcome_of_writing_is_met_often() {
+    // By the refusal's number, and of 15 also where no row has the number.
+    let mut met: BTreeMap<(u32, bool), usize> = BTreeMap::new();
+    let mut empty = 0;
+    let mut longest = 0;
+    for seed in 0..5000 {
+        let table = gen::to_write(&mut Dice::new(seed));
+        let number = writable(&table).err().map_or(0, |r| r.number);
+        let operands = table.xs.iter().chain(&table.ys);
+        let of_root = number == 15 && operands.max().is_none_or(|&n| n <= 9999);
+        *met.entry((number, of_root)).or_default() += 1;
+        empty += usize::from(table == Table::default());
+        longest += usize::from(number == 0 && sheet::spell(&table).len() > 15_000);
+    }
+    for outcome in [(0, false), (1, false), (3, false), (15, false), (15, true)] {
+        let often = met.get(&outcome).copied().unwrap_or(0);
+        assert!(often >= 200, "{outcome:?} met {often} times, all: {met:?}");
+    }
+    assert!(empty >= 10, "empty {empty}");
+    assert!(longest >= 50, "longest {longest}");
+}
+
+#[test]
+fn tables_are_written_the_same_in_every_room() {
+    note_if_no_library("the writing of generated tables");
+    for (name, panel) in versions() {
+        for i in 0..WRITTEN {
+            let dice = &mut Dice::new(compare::seed_of(14, i));
+            let table = match i % 4 {
+                0 => gen::recipe(dice),
+                1 => gen::table(dice),
+                _ => gen::to_write(dice),
+            };
+            for room in compare::rooms(&table) {
+                compare::writing(panel.as_ref(), dice, &table, room)
+                    .unwrap_or_else(|what| panic!("{name}, table {i}: {what}\n{table:?}"));
+            }
+        }
     }
 }
 

@@ -1,5 +1,5 @@
 //! The panel's entries with storage of every length: what must stay unchanged
-//! is unchanged, and the refusals 2, 13 and 14 are met at the very edge. Runs
+//! is unchanged, and the refusals 2, 13, 14 and 15 are met at the very edge. Runs
 //! on the Rust version of the benchmark, and on the library where it is linked.
 
 mod common;
@@ -115,6 +115,74 @@ fn the_numbers_of_the_whole_case_on_records() {
         );
         assert_eq!(many, before);
         assert_eq!(roots, [9, 9, 9]);
+        Ok(())
+    });
+}
+
+#[test]
+fn the_whole_case_is_written() {
+    on_all(|panel, _| {
+        let table = whole_case();
+        let rows = table.records().unwrap();
+        let roots = &table.roots;
+        let text = b"R\tstep\t0\t0\nR\tasync\t0\t0\nR\tstep\t1\t0\nR\tasync\t2\t0\nR\tstep\t2\t0\nR\tseq\t3\t4\n\
+                     R\tfinish\t5\t0\nR\tstep\t3\t0\nR\tseq\t6\t7\nR\tseq\t1\t8\nP\t9\n";
+        let (mut from_slices, mut from_records) = ([b'#'; 120], [b'#'; 120]);
+        let length = panel.write_sheet(&table.kinds, &table.xs, &table.ys, roots, &mut from_slices);
+        assert_eq!(length, reply(0, 115));
+        assert_eq!(
+            panel.write_rows(&rows, roots, &mut from_records),
+            reply(0, 115)
+        );
+        assert_eq!(&from_slices[..115], text);
+        assert_eq!(from_slices[115..], [b'#'; 5]);
+        assert_eq!(from_records, from_slices);
+        // One byte too few, a number that no field holds and an unknown kind leave the bytes as they were.
+        let mut short = [b'#'; 114];
+        assert_eq!(panel.write_rows(&rows, roots, &mut short), reply(14, 0));
+        assert_eq!(panel.write_rows(&rows, &[10_000], &mut short), reply(15, 0));
+        let mut wrong = rows.clone();
+        wrong[8].y = 10_000;
+        assert_eq!(
+            panel.write_rows(&wrong, &[10_000], &mut short),
+            reply(15, 8)
+        );
+        wrong[9].kind = 7;
+        assert_eq!(panel.write_rows(&wrong, &[10_000], &mut short), reply(3, 9));
+        assert_eq!(
+            panel.write_sheet(&table.kinds, &table.xs, &table.ys[..9], roots, &mut short),
+            reply(1, 0)
+        );
+        assert_eq!(short, [b'#'; 114]);
+        // More records than a table can have, with the recipe at their front.
+        let mut many = vec![rows[0]; 3000];
+        many[..10].copy_from_slice(&rows);
+        assert_eq!(
+            panel.write_rows(&many, roots, &mut from_records),
+            reply(1, 0)
+        );
+        assert_eq!(from_records, from_slices);
+        // Nothing at all is written into no bytes.
+        assert_eq!(panel.write_sheet(&[], &[], &[], &[], &mut []), reply(0, 0));
+        assert_eq!(panel.write_rows(&[], &[], &mut []), reply(0, 0));
+        Ok(())
+    });
+}
+
+#[test]
+fn sheets_are_written_into_every_room() {
+    on_all(|panel, dice| {
+        for table in [whole_case(), small(10), figure_third(3)] {
+            let needed = sheet::spell(&table).len();
+            for room in 0..needed + 70 {
+                compare::writing(panel, dice, &table, room)?;
+            }
+        }
+        for table in [figure_third(62), large_flat(), large_ring()] {
+            for room in compare::rooms(&table) {
+                compare::writing(panel, dice, &table, room)?;
+            }
+        }
         Ok(())
     });
 }
@@ -441,16 +509,48 @@ impl Panel for Faulty {
         }
         reply
     }
+
+    fn write_sheet(
+        &self,
+        kinds: &[u8],
+        xs: &[u16],
+        ys: &[u16],
+        roots: &[u16],
+        bytes: &mut [u8],
+    ) -> u64 {
+        let reply = Straight.write_sheet(kinds, xs, ys, roots, bytes);
+        match self.0 {
+            19 if reply >> 32 == 0 && bytes.len() as u64 > reply => bytes[reply as usize] ^= 1,
+            20 if reply >> 32 == 0 && reply > 0 => bytes[reply as usize - 1] ^= 1,
+            21 if reply >> 32 == 14 && !bytes.is_empty() => bytes[0] ^= 1,
+            22 if reply >> 32 == 15 => return reply + 1,
+            23 if reply >> 32 == 3 => return reply + (1 << 32),
+            _ => {}
+        }
+        reply
+    }
+
+    fn write_rows(&self, rows: &[Row], roots: &[u16], bytes: &mut [u8]) -> u64 {
+        let reply = Straight.write_rows(rows, roots, bytes);
+        match self.0 {
+            24 if reply == 0 => return 1 << 32,
+            25 if reply >> 32 == 0 && reply > 2 => bytes[..3].reverse(),
+            26 if reply >> 32 == 15 && !bytes.is_empty() => bytes[0] ^= 1,
+            27 if reply >> 32 == 14 => return 0,
+            _ => {}
+        }
+        reply
+    }
 }
 
 #[test]
 fn the_comparisons_find_faults() {
-    for fault in 0..=18 {
+    for fault in 0..=27 {
         let found =
             (0..2000).any(|i| compare::one(&Faulty(fault), compare::seed_of(13, i)).is_err());
         assert!(found, "fault {fault} was not found");
     }
-    assert!((0..500).all(|i| compare::one(&Faulty(19), compare::seed_of(13, i)).is_ok()));
+    assert!((0..500).all(|i| compare::one(&Faulty(28), compare::seed_of(13, i)).is_ok()));
 }
 
 /// The Rust version, which then changes one byte by its address, as only foreign code can: beside what is lent, or in what is
@@ -556,14 +656,34 @@ impl Panel for Scribbling {
         );
         reply
     }
+
+    fn write_sheet(
+        &self,
+        kinds: &[u8],
+        xs: &[u16],
+        ys: &[u16],
+        roots: &[u16],
+        bytes: &mut [u8],
+    ) -> u64 {
+        let reply = Straight.write_sheet(kinds, xs, ys, roots, bytes);
+        let slices = [read(kinds), read(xs), read(ys), read(roots), written(bytes)];
+        self.scribble(42, &slices);
+        reply
+    }
+
+    fn write_rows(&self, rows: &[Row], roots: &[u16], bytes: &mut [u8]) -> u64 {
+        let reply = Straight.write_rows(rows, roots, bytes);
+        self.scribble(56, &[read(rows), read(roots), written(bytes)]);
+        reply
+    }
 }
 
 #[test]
 fn the_fences_find_what_is_written_beside_what_is_lent() {
-    for fault in 0..=42 {
+    for fault in 0..=64 {
         let panel = Fenced(Box::new(Scribbling(fault)));
         let work = || compare::sheet(&panel, &mut Dice::new(8), &sheet::spell(&whole_case()));
         let outcome = std::panic::catch_unwind(std::panic::AssertUnwindSafe(work));
-        assert_eq!(outcome.is_err(), fault < 42, "fault {fault}");
+        assert_eq!(outcome.is_err(), fault < 64, "fault {fault}");
     }
 }

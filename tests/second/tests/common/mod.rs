@@ -114,6 +114,23 @@ pub fn reads(name: &str, bytes: &[u8], room: [usize; 4], due: Result<Table, (u32
     });
 }
 
+/// Holds all to what writing a table gives, a sheet or a number and a place: into no bytes, into as many as the sheet needs and a
+/// few less or more, and into more than any needs; and to the reading of what was written.
+pub fn writes(name: &str, table: &Table, due: Result<&str, (u32, usize)>) {
+    let due = due
+        .map(|sheet| sheet.as_bytes().to_vec())
+        .map_err(|(number, place)| refusal(number, place));
+    assert!(sheet::write(table, usize::MAX) == due, "{name}");
+    for room in compare::rooms(table) {
+        let fits = due.as_ref().map_or(true, |sheet| sheet.len() <= room);
+        let got = sheet::write(table, room).map_err(|refusal| refusal.number);
+        assert_eq!(got == Err(14), !fits, "{name}, {room} bytes");
+        on_all(name, |panel, dice| {
+            compare::writing(panel, dice, table, room)
+        });
+    }
+}
+
 /// Holds the second program and, where it is named, the report program to what is printed for a sheet.
 pub fn prints(name: &str, bytes: &[u8], line: &str) {
     let same =
