@@ -60,8 +60,8 @@ neither-second false b h = h
 
 module _ (z : Size) (t : Table) where
   -- Whether the table's sizes can be written.
-  abbrev pub sizesFit : Bool
-  sizesFit = sizesWritable z (rows t) (length (t .xs)) (length (t .ys)) (procs t)
+  abbrev pub sizesPass : Bool
+  sizesPass = sizesWritable z (rows t) (length (t .xs)) (length (t .ys)) (procs t)
 
   -- What is left of the judgement from each rule on.
   abbrev pub fromRoots : Judged
@@ -73,11 +73,11 @@ module _ (z : Size) (t : Table) where
   abbrev pub fromKinds : Judged
   fromKinds = judgedBy (kindRule t ∷ operandRule t ∷ rootRule t ∷ [])
 
-  pub sizes-refused : sizesFit ≡ false → judgedBy (tableRules z t) ≡ Refused Sizes
-  sizes-refused h = whole-broken Sizes (kindRule t ∷ operandRule t ∷ rootRule t ∷ []) (not sizesFit) (ap not h)
+  pub sizes-refused : sizesPass ≡ false → judgedBy (tableRules z t) ≡ Refused Sizes
+  sizes-refused h = whole-broken Sizes (kindRule t ∷ operandRule t ∷ rootRule t ∷ []) (not sizesPass) (ap not h)
 
-  pub sizes-passed : sizesFit ≡ true → judgedBy (tableRules z t) ≡ fromKinds
-  sizes-passed h = whole-kept Sizes (kindRule t ∷ operandRule t ∷ rootRule t ∷ []) (not sizesFit) (ap not h)
+  pub sizes-passed : sizesPass ≡ true → judgedBy (tableRules z t) ≡ fromKinds
+  sizes-passed h = whole-kept Sizes (kindRule t ∷ operandRule t ∷ rootRule t ∷ []) (not sizesPass) (ap not h)
 
   pub admitted-means : judgedBy (tableRules z t) ≡ Admitted → Spellable z t
   admitted-means h =
@@ -86,7 +86,7 @@ module _ (z : Size) (t : Table) where
       let past-operands = passed-if-admitted (operandRule t) (rootRule t ∷ []) (past-kinds .1) in
       let past-roots = passed-if-admitted (rootRule t) [] (past-operands .1) in
       let short-operands = none-at-all (rows t) (operandRule t .breaks) (past-operands .0) in
-      let sizes = sized z _ _ _ _ (not-false sizesFit (none-at-all 1 (λ i. not sizesFit) (past-sizes .0) 0 (omega arith))) in
+      let sizes = sized z _ _ _ _ (not-false sizesPass (none-at-all 1 (λ i. not sizesPass) (past-sizes .0) 0 (omega arith))) in
       record {
         few-rows = sizes .few-rows;
         few-procs = sizes .few-procs;
