@@ -38,8 +38,8 @@ sized z rows xs ys procs h =
 
 module _ (z : Size) (t : Table) where
   -- Whether the table's sizes can be written.
-  abbrev pub sizesFit : Bool
-  sizesFit = sizesWritable z (rows t) (length (t .xs)) (length (t .ys)) (procs t)
+  abbrev pub sizesPass : Bool
+  sizesPass = sizesWritable z (rows t) (length (t .xs)) (length (t .ys)) (procs t)
 
   -- What is left of the judgement from each rule on.
   abbrev pub fromRoots : Judged
@@ -51,8 +51,8 @@ module _ (z : Size) (t : Table) where
   abbrev pub fromKinds : Judged
   fromKinds = judgedBy (kindRule t ∷ operandRule t ∷ rootRule t ∷ [])
 
-  pub sizes-refused : sizesFit ≡ false → judgedBy (tableRules z t) ≡ Refused Sizes
-  sizes-refused h = whole-broken Sizes (kindRule t ∷ operandRule t ∷ rootRule t ∷ []) (not sizesFit) (ap not h)
+  pub sizes-refused : sizesPass ≡ false → judgedBy (tableRules z t) ≡ Refused Sizes
+  sizes-refused h = whole-broken Sizes (kindRule t ∷ operandRule t ∷ rootRule t ∷ []) (not sizesPass) (ap not h)
 
-  pub sizes-passed : sizesFit ≡ true → judgedBy (tableRules z t) ≡ fromKinds
-  sizes-passed h = whole-kept Sizes (kindRule t ∷ operandRule t ∷ rootRule t ∷ []) (not sizesFit) (ap not h)
+  pub sizes-passed : sizesPass ≡ true → judgedBy (tableRules z t) ≡ fromKinds
+  sizes-passed h = whole-kept Sizes (kindRule t ∷ operandRule t ∷ rootRule t ∷ []) (not sizesPass) (ap not h)

@@ -19,7 +19,7 @@ use Rattle.sheet.proofs.Outcomes.{every-more}
 use Rattle.table.specs.Inner.{blank}
 use Rattle.writer.specs.Rules.{sizesWritable, tooLong, tableRules}
 use Rattle.writer.specs.Sheets.{rowAt, recordsOf}
-use Rattle.writer.proofs.Judging.{sized, sizesFit}
+use Rattle.writer.proofs.Judging.{sized, sizesPass}
 use Rattle.writer.proofs.Records.{row-again}
 
 -- ---- every element, and every place
@@ -62,7 +62,7 @@ pub record Kept (z : Size) (t : Table) : Type 0 where
 module _ (z : Size) (t : Table) where
   pub kept : KeepsRules (tableRules z t) → Kept z t
   kept k =
-      let sizes = sized z (rows t) (length (t .xs)) (length (t .ys)) (procs t) (not-false (sizesFit z t) (k .0 0 (omega arith))) in
+      let sizes = sized z (rows t) (length (t .xs)) (length (t .ys)) (procs t) (not-false (sizesPass z t) (k .0 0 (omega arith))) in
       record {
         fewRows = sizes .few-rows;
         fewProcs = sizes .few-procs;

@@ -23,7 +23,7 @@ use Rattle.writer.specs.Replies.{writtenAs, heldAs, written, bytesWritte
 use Rattle.writer.specs.Rules.{roomRule, tableRules, writable}
 use Rattle.writer.specs.Sheets.{sheetOf}
 use Rattle.writer.specs.declared.Written.the-variants as reply
-use Rattle.writer.proofs.Judging.{sized, sizesFit, sizes-refused}
+use Rattle.writer.proofs.Judging.{sized, sizesPass, sizes-refused}
 
 module _ (z : Size) (t : Table) (b : List ℕ) where
   by-room : judgedBy (tableRules z t) ≡ Admitted → writable z t (length b) ≡ judgedBy (roomRule t (length b) ∷ [])
@@ -57,10 +57,10 @@ module _ (z : Size) (t : Table) (b : List ℕ) where
 
 -- More rows than a table can have are refused for their sizes.
 module _ (z : Size) where
-  wrong : (t : Table) → rowCeiling < rows t → sizesFit z t ≡ false
-  wrong t h = go (sizesFit z t) refl
+  wrong : (t : Table) → rowCeiling < rows t → sizesPass z t ≡ false
+  wrong t h = go (sizesPass z t) refl
     where
-      go : (b : Bool) → sizesFit z t ≡ b → b ≡ false
+      go : (b : Bool) → sizesPass z t ≡ b → b ≡ false
       go true e = absurd (omega (arith, sized z (rows t) (length (t .xs)) (length (t .ys)) (procs t) e .few-rows))
       go false e = refl
 

@@ -13,7 +13,7 @@ use Rattle.recipe.specs.Rules.{judgedBy}
 use Rattle.recipe.specs.Tables.{Table, tableOf, rows, procs}
 use Rattle.recipe.proofs.Judging.{refused-at, passed-on, all-passed}
 use Rattle.writer.specs.Rules.{operandRule, tableRules}
-use Rattle.writer.proofs.Judging.{WritableSizes, sized, sizesFit, fromKinds, fromOperands, fromRoots, sizes-refused, sizes-passed}
+use Rattle.writer.proofs.Judging.{WritableSizes, sized, sizesPass, fromKinds, fromOperands, fromRoots, sizes-refused, sizes-passed}
 use Rattle.writer.proofs.rules.judge.Statement.{statement}
 use Rattle.writer.proofs.rules.judge.Tie as tie
 
@@ -33,7 +33,7 @@ abbrev past-operands : tie.Else3 → Table
 past-operands c = past-kinds (c .before .before)
 
 -- The sizes can be written past their rule, and still past the later ones.
-right-sizes : (c : tie.Else1) → sizesFit ours (past-sizes c) ≡ true
+right-sizes : (c : tie.Else1) → sizesPass ours (past-sizes c) ≡ true
 right-sizes c = sym (c .before .sizes-writable .ensures) ∙ not-false _ (c .if1 .left)
 
 sizes : (c : tie.Else1) → let t = past-sizes c in WritableSizes ours (rows t) (length (t .xs)) (length (t .ys)) (procs t)
