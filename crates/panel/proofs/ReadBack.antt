@@ -13,7 +13,7 @@ use Rattle.numbers.specs.Sizes.{ours, rowCeiling, sheetCeiling}
 use Rattle.numbers.specs.Refusals.{refusalNumber, refusalPlace}
 use Rattle.numbers.specs.declared.Refusal.{Refusal}
 use Rattle.numbers.specs.declared.Refusal.the-variants.{Sizes, ShortMatrix, UnknownKind, WrongOperand, NoSuchRow, UsedAgain, Unused, LongSheet, WrongForm}
-use Rattle.numbers.specs.declared.Refusal.the-variants.{NoRoom, ShortBytes}
+use Rattle.numbers.specs.declared.Refusal.the-variants.{NoRoom, ShortBytes, LongOperand, LongRoot}
 use Rattle.numbers.proofs.Refusals.{refusal-determined}
 use Rattle.recipe.specs.Offences.{Refuses}
 use Rattle.recipe.specs.Rules.{Rule, sizesFit, matrixRule, furtherRules, rulesWith, judgedWith}
@@ -48,11 +48,11 @@ use Rattle.panel.proofs.CodeLaws.{reading-within}
 
 -- ---- a refusal
 
--- Its place is below the unit of its number.
+-- Its place is below the unit of its number, and its number is not 15, which a row and a procedure share.
 abbrev Near : Refusal → Type 0
-Near r = refusalPlace r < numberUnit
+Near r = (refusalPlace r < numberUnit) × (refusalNumber r ≡ 15 → ⊥)
 
-numbered : (r : Refusal) → 1 ≤ refusalNumber r
+pub numbered : (r : Refusal) → 1 ≤ refusalNumber r
 numbered Sizes = omega arith
 numbered ShortMatrix = omega arith
 numbered (UnknownKind row) = omega arith
@@ -64,14 +64,21 @@ numbered LongSheet = omega arith
 numbered (WrongForm line) = omega arith
 numbered (NoRoom line) = omega arith
 numbered ShortBytes = omega arith
+numbered (LongOperand row) = omega arith
+numbered (LongRoot proc) = omega arith
+
+-- Equal codes have equal numbers and equal places.
+pub halves-told :
+    (r s : Refusal) → refusalPlace r < numberUnit → refusalPlace s < numberUnit → refusalCode r ≡ refusalCode s
+    → (refusalNumber r ≡ refusalNumber s) × (refusalPlace r ≡ refusalPlace s)
+halves-told r s p q e = (omega (arith, p, q, e), omega (arith, p, q, e))
 
 refusals-told : (r s : Refusal) → Near r → Near s → refusalCode r ≡ refusalCode s → r ≡ s
 refusals-told r s p q e =
-    let n : refusalNumber r ≡ refusalNumber s = omega (arith, p, q, e) in
-    let m : refusalPlace r ≡ refusalPlace s = omega (arith, p, q, e) in refusal-determined r s n m
+    let same = halves-told r s (p .0) (q .0) e in refusal-determined r s (same .0) (same .1) (p .1)
 
 -- A success is no refusal.
-success-told : {A : Type 0} (k : ℕ) (r : Refusal) → k < numberUnit → k ≡ refusalCode r → A
+pub success-told : {A : Type 0} (k : ℕ) (r : Refusal) → k < numberUnit → k ≡ refusalCode r → A
 success-told k r l e = absurd (omega (arith, numbered r, l, e))
 
 -- What rules refuse has a near place, where all their places are near.
@@ -88,12 +95,21 @@ near-judged : (t : Table) (words : ℕ) (r : Refusal) → judgedWith ours t word
 near-judged t words r e = go (refused-with-means ours t r words e)
   where
     go : {why : Refusal} → Refuses (rulesWith ours t words) why → Near why
-    go (Refuses.here f) = omega arith
+    go (Refuses.here f) = (omega arith, λ e. omega arith)
     go (Refuses.later none o) =
         let right = sized ours (rows t) (length (t .xs)) (length (t .ys)) (procs t) (not-false (sizesFit ours t) (none 0 (omega arith))) in
         let row : (i : ℕ) → i < rows t → i < numberUnit = λ i h. omega (arith, right .few-rows) in
         let proc : (f : ℕ) → f < procs t → f < numberUnit = λ f h. omega (arith, right .few-procs) in
-        near-refused (matrixRule ours words ∷ furtherRules ours t) ((λ i h. omega arith), (row, (row, (proc, (row, (row, tt)))))) o
+        near-refused (matrixRule ours words ∷ furtherRules ours t) (
+          λ i h. (omega arith, λ e. omega arith),
+          (
+            λ i h. (row i h, λ e. omega arith),
+            (
+              λ i h. (row i h, λ e. omega arith),
+              (λ f h. (proc f h, λ e. omega arith), (λ i h. (row i h, λ e. omega arith), (λ i h. (row i h, λ e. omega arith), tt))),
+            ),
+          ),
+        ) o
 
 -- ---- the analysis
 
@@ -128,7 +144,7 @@ listed-fits t words room = go (judgedWith ours t words) refl
     text : (b : Bool) → length (listingOf ours (programOf t)) ≤ longestListing
         → FitsListed (cond b (listing.Length (length (listingOf ours (programOf t)))) (listing.Refused ShortBytes))
     text true h = omega (arith, h)
-    text false h = omega arith
+    text false h = (omega arith, λ e. omega arith)
 
     go : (j : Judged) → judgedWith ours t words ≡ j → FitsListed (listedAs ours (programOf t) room j)
     go judged-reply.Admitted e = text (leb (length (listingOf ours (programOf t))) room) (recipe-listing-short t (admitted-with ours t words e .0))
@@ -159,10 +175,10 @@ near-offence R P bytes why h o = go (o .offends)
         omega (arith, h, lines-have-bytes (o .rows) (o .roots), ap length (o .spelled), length-append (spell (o .rows) (o .roots)) (o .rest))
 
     go : {r : Refusal} → Offends R P (o .rows) (o .roots) (o .rest) (length (o .rows) + length (o .roots)) r → Near r
-    go (Offends.misformed l) = near
-    go (Offends.late l z) = near
-    go (Offends.rowLacks l z n) = near
-    go (Offends.rootLacks l n) = near
+    go (Offends.misformed l) = (near, λ e. omega arith)
+    go (Offends.late l z) = (near, λ e. omega arith)
+    go (Offends.rowLacks l z n) = (near, λ e. omega arith)
+    go (Offends.rootLacks l n) = (near, λ e. omega arith)
 
 abbrev FitsRead : Read → Type 0
 FitsRead (read.Stored n m) = WithinCeilings (read.Stored n m)
@@ -176,7 +192,7 @@ near-read R P bytes why e = go (leb (length bytes) sheetCeiling) refl
         let short = leb-true (length bytes) sheetCeiling p in
         near-offence (min rowCeiling R) (min (ours .procs) P) bytes why short (refused-where-it-offends ours R P bytes why short e)
     go false p =
-        let s : LongSheet ≡ why = cc (sheet-too-long ours R P bytes (leb-false (length bytes) sheetCeiling p)) in subst Near s (omega arith)
+        let s : LongSheet ≡ why = cc (sheet-too-long ours R P bytes (leb-false (length bytes) sheetCeiling p)) in subst Near s (omega arith, λ e. omega arith)
 
 read-fits : (R P : ℕ) (bytes : List ℕ) → FitsRead (replyOf (readSheet ours R P bytes))
 read-fits R P bytes = go (readSheet ours R P bytes) refl

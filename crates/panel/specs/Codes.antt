@@ -8,6 +8,8 @@ use Rattle.table.specs.declared.Read.{Read}
 use Rattle.table.specs.declared.Read.the-variants as read
 use Rattle.listing.specs.declared.Listed.{Listed}
 use Rattle.listing.specs.declared.Listed.the-variants as listed
+use Rattle.writer.specs.declared.Written.{Written}
+use Rattle.writer.specs.declared.Written.the-variants as written
 
 -- A refusal's number counts in units of 2^32, and so stands above every place, count and length.
 abbrev pub numberUnit : ℕ
@@ -35,3 +37,8 @@ readCode (read.Refused r) = refusalCode r
 abbrev pub listedCode : Listed → ℕ
 listedCode (listed.Length n) = n
 listedCode (listed.Refused r) = refusalCode r
+
+-- Writing: the sheet's length, or the refusal.
+abbrev pub writtenCode : Written → ℕ
+writtenCode (written.Length n) = n
+writtenCode (written.Refused r) = refusalCode r

@@ -10,13 +10,15 @@ ghost use Rattle.listing.specs.Replies.{listed, matrixListed, bytesListed};
 ghost use Rattle.table.specs.Reading.{rowsOf, rootsOf, replyOf};
 ghost use Rattle.sheet.specs.Reading.{readInto};
 ghost use Rattle.records.specs.Records.{readRecords};
-ghost use Rattle.panel.specs.Codes.{refusalCode, analysedCode, readCode, listedCode};
+ghost use Rattle.writer.specs.Replies.{written, bytesWritten};
+ghost use Rattle.panel.specs.Codes.{refusalCode, analysedCode, readCode, listedCode, writtenCode};
 ghost use Rattle.panel.specs.Inner.{WithinCeilings};
 use analysis::Analysed;
 use listing::Listed;
 use numbers::Refusal;
 use recipe::Row;
 use table::Read;
+use writer::Written;
 
 // A refusal's number counts in units of 2^32, and so stands above every place, count and length.
 const NUMBER_UNIT: u64 = 4294967296;
@@ -59,6 +61,16 @@ fn listed_code(reply: Listed) -> u64
     match reply {
         Listed::Length(n) => n as u64,
         Listed::Refused(r) => refusal_code(r),
+    }
+}
+
+// A reply of the writer as one number.
+fn written_code(reply: Written) -> u64
+    ensures { λ n. ⌜ n ≡ writtenCode reply ⌝ }
+{
+    match reply {
+        Written::Length(n) => n as u64,
+        Written::Refused(r) => refusal_code(r),
     }
 }
 
@@ -118,6 +130,23 @@ pub extern "C" fn bushkalote_list_pairs(
     listed_code(listing::list_pairs(kinds, xs, ys, roots, matrix, bytes))
 }
 
+// The writer, for a caller in C.
+#[no_mangle]
+pub extern "C" fn bushkalote_write_sheet(
+    kinds: &[u8],
+    xs: &[u16],
+    ys: &[u16],
+    roots: &[u16],
+    bytes: &mut [u8],
+) -> u64
+    ensures reply { λ n. let t = tableOf (now (kinds .entry)) (now (xs .entry)) (now (ys .entry)) (now (roots .entry)) in
+        ⌜ n ≡ writtenCode (written ours t (length (now (bytes .entry)))) ⌝ }
+    ensures text { λ _. let t = tableOf (now (kinds .entry)) (now (xs .entry)) (now (ys .entry)) (now (roots .entry)) in
+        ⌜ now (bytes .exit) ≡ bytesWritten ours t (now (bytes .entry)) ⌝ }
+{
+    written_code(writer::write_sheet(kinds, xs, ys, roots, bytes))
+}
+
 // The analysis on row records, for a caller in C.
 #[no_mangle]
 pub extern "C" fn bushkalote_analyse_rows(rows: &[Row], roots: &[u16], matrix: &mut [u64]) -> u64
@@ -153,4 +182,14 @@ pub extern "C" fn bushkalote_list_rows(
         × (now (bytes .exit) ≡ bytesListed ours t (length (now (matrix .entry))) (now (bytes .entry))) ⌝ }
 {
     listed_code(records::list_rows(rows, roots, matrix, bytes))
+}
+
+// The writer from row records, for a caller in C.
+#[no_mangle]
+pub extern "C" fn bushkalote_write_rows(rows: &[Row], roots: &[u16], bytes: &mut [u8]) -> u64
+    ensures { λ n. let t = tableOfRows (now (rows .entry)) (now (roots .entry)) in
+        ⌜ (n ≡ writtenCode (written ours t (length (now (bytes .entry)))))
+        × (now (bytes .exit) ≡ bytesWritten ours t (now (bytes .entry))) ⌝ }
+{
+    written_code(writer::write_rows(rows, roots, bytes))
 }
