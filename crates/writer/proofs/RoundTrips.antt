@@ -25,7 +25,7 @@ use Rattle.writer.proofs.Sizes.{sheet-short}
 
 module _ (z : Size) (t : Table) (room n : ℕ) (done : written z t room ≡ reply.Length n) where
   -- The rules without the room.
-  table-keeps : KeepsRules (tableRules z t)
+  pub table-keeps : KeepsRules (tableRules z t)
   table-keeps = let k = written-keeps z t room n done in (k .0, (k .1 .0, (k .1 .1 .0, (k .1 .1 .1 .0, tt))))
 
   -- The records of a table that is written are the whole of its rows: they make the table again.
