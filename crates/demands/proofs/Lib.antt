@@ -4,3 +4,5 @@ pub mod RuleRounds
 pub mod Reported
 pub mod Entries
 pub mod StarredRecipes
+pub mod RoundTrips
+pub mod PanelRoundTrips

@@ -4,7 +4,7 @@
 use mathlib.Core.Bool.{Bool, true, false, cond}
 use mathlib.Core.List.{List, [], _∷_}
 use mathlib.Core.Path.{_≡_, refl, sym, ap, ap₂, subst}
-use Prim.Native.Nat.{ℕ, _+_, _*_, _≤_, _<_, min}
+use Prim.Native.Nat.{ℕ, _+_, _*_, _/_, _%_, _≤_, _<_, min}
 use native.Mathlib.Omega.{arith}
 use borrow.Author.Tests.{leb-true, leb-false, not-false}
 use lib.Dec.{leb}
@@ -223,3 +223,15 @@ pub reading-told :
     → replyOf (readSheet ours R P a) ≡ replyOf (readSheet ours Q S b)
 reading-told R P Q S a b =
     read-told (replyOf (readSheet ours R P a)) (replyOf (readSheet ours Q S b)) (read-fits R P a) (read-fits Q S b)
+
+-- A number below the unit of a refusal is that of rows and, above them, procedures.
+pub stored-of-code :
+    (R P : ℕ) (bytes : List ℕ) (k : ℕ) → k ≡ readCode (replyOf (readSheet ours R P bytes)) → k < numberUnit
+    → replyOf (readSheet ours R P bytes) ≡ read.Stored (k % procsUnit) (k / procsUnit)
+stored-of-code R P bytes k e h = go (replyOf (readSheet ours R P bytes)) (read-fits R P bytes) e
+  where
+    go : (x : Read) → FitsRead x → k ≡ readCode x → x ≡ read.Stored (k % procsUnit) (k / procsUnit)
+    go (read.Stored n m) fits c =
+        let rows : n ≡ k % procsUnit = omega (arith, fits .0, fits .1, c) in
+        let roots : m ≡ k / procsUnit = omega (arith, fits .0, fits .1, c) in ap₂ read.Stored rows roots
+    go (read.Refused r) fits c = success-told k r h c

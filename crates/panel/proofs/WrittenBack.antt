@@ -90,3 +90,11 @@ module _ (t : Table) where
           let halves =
           halves-told r s (near-place a (written-refused-means ours t a r e)) (near-place b (written-refused-means ours t b s f)) c
           in ap reply.Refused (refusals-told a b r s e f (halves .1) (halves .0))
+
+  -- A number below the unit is a sheet's length.
+  pub length-of-code : (room n : ℕ) → n ≡ writtenCode (written ours t room) → n < numberUnit → written ours t room ≡ reply.Length n
+  length-of-code room n e h = go (written ours t room) e
+    where
+      go : (x : Written) → n ≡ writtenCode x → x ≡ reply.Length n
+      go (reply.Length m) c = ap reply.Length (sym c)
+      go (reply.Refused r) c = success-told n r h c
