@@ -1,5 +1,6 @@
 -- `sizes_writable` meets its contract: each return is the first test that fails, or the last test itself.
 -- Assumes nothing.
+use mathlib.Core.Path.{refl}
 use borrow.Author.Tests.{le-leb, lt-leb, eq-eqb, ne-eqb}
 use Rattle.writer.specs.Rules.{sizesWritable}
 use Rattle.writer.proofs.rules.sizes_writable.Statement.{statement}
@@ -19,7 +20,7 @@ returns-3 c = simp (le-leb _ _ (c .before .before .if1 .left), le-leb _ _ (c .be
 
 returns-4 : tie.Need-returns-4
 unfolding sizesWritable
-returns-4 c = simp (le-leb _ _ (c .before .before .if1 .left), le-leb _ _ (c .before .if2 .left), eq-eqb _ _ (c .if3 .left))
+returns-4 c = simp (le-leb _ _ (c .before .before .if1 .left), le-leb _ _ (c .before .if2 .left), eq-eqb _ _ (c .if3 .left)) refl
 
 pub sizes-writable-spec : {M : Type 1} → statement M
 sizes-writable-spec = tie.close (tie.spec returns returns-2 returns-3 returns-4)
