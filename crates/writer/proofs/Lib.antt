@@ -8,5 +8,6 @@ pub mod Refusing
 pub mod ReplyLaws
 pub mod Sizes
 pub mod RoundTrips
+pub mod Agreement
 pub mod Unique
 mod Examples
