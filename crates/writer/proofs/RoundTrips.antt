@@ -16,7 +16,7 @@ use Rattle.sheet.proofs.SheetForms.{read-is-spelled, spelled-is-read}
 use Rattle.table.specs.Reading.{table}
 use Rattle.writer.specs.Replies.{written}
 use Rattle.writer.specs.Rules.{tableRules}
-use Rattle.writer.specs.Sheets.{recordsOf, sheetOf}
+use Rattle.writer.specs.Sheets.{recordsOf, sheetOf, longestSheet}
 use Rattle.writer.specs.declared.Written.the-variants as reply
 use Rattle.writer.proofs.Kept.{kept, records-keep}
 use Rattle.writer.proofs.Records.{as-many-records, records-again, table-again}
@@ -61,9 +61,16 @@ module _ (rowsLent rootsLent : ℕ) where
     sheet-again =
         ap (λ (l : List Row). spell l roots) (records-again records roots) ∙ read-is-spelled ours rowsLent rootsLent bytes records roots e .0
 
+    read-keeps : KeepsRules (tableRules ours (tableOfRows records roots))
+    read-keeps =
+        let held = read-is-spelled ours rowsLent rootsLent bytes records roots e .1 in
+        records-keep ours records roots (omega (arith, held .rowsFit)) (omega (arith, held .rootsFit)) (held .rowsShort) (held .rootsShort)
+
+    -- No sheet that is read has more bytes than the longest that is written.
+    pub read-short : length bytes ≤ longestSheet
+    read-short = omega (arith, ap length sheet-again, sheet-short (tableOfRows records roots) read-keeps)
+
     pub written-again : (room : ℕ) → length bytes ≤ room → written ours (tableOfRows records roots) room ≡ reply.Length (length bytes)
     written-again room fits =
-        let held = read-is-spelled ours rowsLent rootsLent bytes records roots e .1 in
-        let keeps = records-keep ours records roots (omega (arith, held .rowsFit)) (omega (arith, held .rootsFit)) (held .rowsShort) (held .rootsShort) in
-        kept-written ours (tableOfRows records roots) room keeps (omega (arith, ap length sheet-again))
+        kept-written ours (tableOfRows records roots) room read-keeps (omega (arith, ap length sheet-again))
         ∙ ap (λ (s : List ℕ). reply.Length (length s)) sheet-again
