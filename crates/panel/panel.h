@@ -1,6 +1,6 @@
 /*
  * The recipe tool for a panel's firmware: the eight entries of libpanel.a.
- * docs/PANEL.md is the guide to it: linking, stack, and an example.
+ * docs/PANEL.md is the guide to it: linking, stack, and two examples.
  *
  * A slice is handed over as a pointer and a length, the length in elements,
  * not in bytes. A pointer is never null, also where the length is 0, and is

@@ -101,7 +101,7 @@ static int all_words(uint64_t word)
     return 1;
 }
 
-/* The three entries on records. */
+/* Reading, the analysis and the listing on records. */
 static void on_records(void)
 {
     const size_t full = sizeof whole_listing - 1;

@@ -18,9 +18,6 @@ use table::Columns;
 mod lines;
 mod rules;
 
-// No sheet that is written has more bytes.
-pub const LONGEST: usize = 19904;
-
 // What writing replies: the sheet's length in bytes, or the refusal.
 pub enum Written {
     Length(usize),
