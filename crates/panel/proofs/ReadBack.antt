@@ -1,5 +1,5 @@
--- A caller in C can tell every reply by its number: a refusal's number is at least 1 and stands above 2^32, and every place, count and length that a reply
--- has is below.
+-- A caller in C can tell every reply of the analysis, the reader and the listing by its number: a refusal's number is at least 1 and stands above 2^32, and
+-- every place, count and length that a reply has is below.
 -- Assumes nothing.
 use mathlib.Core.Bool.{Bool, true, false, cond}
 use mathlib.Core.List.{List, [], _∷_}

@@ -2,6 +2,7 @@
 -- Assumes nothing.
 use mathlib.Core.List.{List, [], _∷_}
 use mathlib.Core.Path.{_≡_, refl}
+use lib.ListN.{replicate}
 use Rattle.numbers.specs.General.{lowest, inTurn}
 use Rattle.numbers.specs.Sizes.{ours}
 use Rattle.numbers.specs.declared.Refusal.the-variants.{Sizes, UnknownKind, ShortBytes, LongOperand, LongRoot}
@@ -68,9 +69,21 @@ root-long : written ours (tableOf [] [] [] (9999 ∷ 10000 ∷ [])) 0 ≡ Refuse
 unfolding written writable judgedBy lowest sizesWritable
 root-long = refl
 
--- One operand is lacking, and a kind is unknown: the sizes are due.
+-- Row 0 has a y and row 1 an x that is too long: the lower row is due, whichever operand it is.
+lowest-row : written ours (tableOf (0 ∷ 0 ∷ []) (0 ∷ 10000 ∷ []) (10000 ∷ 0 ∷ []) []) 0 ≡ Refused (LongOperand (record { 0 = 0 }))
+unfolding written writable judgedBy lowest sizesWritable
+lowest-row = refl
+
+-- One operand is lacking or left over, and a kind is unknown: the sizes are due.
 unequal :
     (written ours (tableOf (7 ∷ []) (0 ∷ []) [] []) 100 ≡ Refused Sizes)
     × (written ours (tableOf (7 ∷ []) [] (0 ∷ []) []) 100 ≡ Refused Sizes)
+    × (written ours (tableOf (7 ∷ []) (0 ∷ 0 ∷ []) (0 ∷ []) []) 100 ≡ Refused Sizes)
+    × (written ours (tableOf (7 ∷ []) (0 ∷ []) (0 ∷ 0 ∷ []) []) 100 ≡ Refused Sizes)
 unfolding written writable judgedBy lowest sizesWritable
-unequal = (refl, refl)
+unequal = (refl, refl, refl, refl)
+
+-- One procedure is too many, and a kind is unknown: the sizes are due.
+too-many-procedures : written ours (tableOf (7 ∷ []) (0 ∷ []) (0 ∷ []) (replicate 65 0)) 100 ≡ Refused Sizes
+unfolding written writable judgedBy lowest sizesWritable
+too-many-procedures = refl

@@ -48,10 +48,3 @@ module _ (t : Table) where
       map-ones (rowAt t) (λ (row : Row). row .y) (rows t)
       ∙ ap (λ (n : ℕ). inTurn n (λ i. yAt t i ∷ [])) (sym whole)
       ∙ list-of-ones (t .ys) 0
-
-  -- A table with both operands to each row is the table of its records.
-  pub table-again : length (t .xs) ≡ rows t → length (t .ys) ≡ rows t → tableOfRows (recordsOf t) (t .roots) ≡ t
-  table-again xs-whole ys-whole =
-      ap (λ (l : List ℕ). record { kinds = l; xs = xsOf (recordsOf t); ys = ysOf (recordsOf t); roots = t .roots }) kinds-again
-      ∙ ap (λ (l : List ℕ). record { kinds = t .kinds; xs = l; ys = ysOf (recordsOf t); roots = t .roots }) (xs-again xs-whole)
-      ∙ ap (λ (l : List ℕ). record { kinds = t .kinds; xs = t .xs; ys = l; roots = t .roots }) (ys-again ys-whole)

@@ -120,6 +120,16 @@ module _ (z : Size) (t : Table) where
       (Refuses.later (k .1 .1 .1 .0)
       (Refuses.here {i = 0} (record { there = omega arith; passes = lt-ltb room (length (sheetOf t)) short; before = λ i h. absurd (omega arith) }))))))
 
+  -- 14 is given for nothing else: the table keeps the other rules, and its sheet is longer than the room.
+  pub room-told : (room : ℕ) → written z t room ≡ reply.Refused ShortBytes → KeepsRules (tableRules z t) × (room < length (sheetOf t))
+  room-told room e =
+      let sizes = passed-rule (written-refused-means room ShortBytes e) (λ k f. cc) in
+      let kinds = passed-rule (sizes .1) (λ k f. cc) in
+      let operands = passed-rule (kinds .1) (λ k f. cc) in
+      let roots = passed-rule (operands .1) (λ k f. cc) in
+      let short = broken-rule (roots .1) no-rule-refuses in
+      ((sizes .0, (kinds .0, (operands .0, (roots .0, tt)))), ltb-true room (length (sheetOf t)) (short .1 .passes))
+
   -- ---- which number is too long
 
   -- A row that is named has an operand that is too long.

@@ -19,7 +19,7 @@ use Rattle.writer.specs.Rules.{tableRules}
 use Rattle.writer.specs.Sheets.{recordsOf, sheetOf, longestSheet}
 use Rattle.writer.specs.declared.Written.the-variants as reply
 use Rattle.writer.proofs.Kept.{kept, records-keep}
-use Rattle.writer.proofs.Records.{as-many-records, records-again, table-again}
+use Rattle.writer.proofs.Records.{as-many-records, records-again}
 use Rattle.writer.proofs.Refusing.{written-keeps, kept-written}
 use Rattle.writer.proofs.Sizes.{sheet-short}
 
@@ -27,10 +27,6 @@ module _ (z : Size) (t : Table) (room n : ℕ) (done : written z t room ≡ repl
   -- The rules without the room.
   pub table-keeps : KeepsRules (tableRules z t)
   table-keeps = let k = written-keeps z t room n done in (k .0, (k .1 .0, (k .1 .1 .0, (k .1 .1 .1 .0, tt))))
-
-  -- The records of a table that is written are the whole of its rows: they make the table again.
-  pub written-table-again : tableOfRows (recordsOf t) (t .roots) ≡ t
-  written-table-again = let facts = kept z t table-keeps in table-again t (facts .xsWhole) (facts .ysWhole)
 
 module _ (rowsLent rootsLent : ℕ) where
   -- ---- written, then read

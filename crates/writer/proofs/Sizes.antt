@@ -23,7 +23,7 @@ use Rattle.writer.specs.Sheets.{recordsOf, sheetOf, longestSheet}
 use Rattle.writer.specs.declared.Written.the-variants as reply
 use Rattle.writer.proofs.Kept.{kept, records-keep}
 use Rattle.writer.proofs.Records.{as-many-records, records-again}
-use Rattle.writer.proofs.Refusing.{kept-written, kept-refused}
+use Rattle.writer.proofs.Refusing.{kept-written, kept-refused, room-told}
 
 -- ---- a line
 
@@ -97,6 +97,10 @@ sheet-short t k =
 pub room-enough :
     (t : Table) (room : ℕ) → KeepsRules (tableRules ours t) → longestSheet ≤ room → written ours t room ≡ reply.Length (length (sheetOf t))
 room-enough t room k enough = kept-written ours t room k (omega (arith, sheet-short t k))
+
+-- And no table at all gets 14.
+pub never-short : (t : Table) (room : ℕ) → longestSheet ≤ room → written ours t room ≡ reply.Refused ShortBytes → ⊥
+never-short t room enough e = let told = room-told ours t room e in absurd (omega (arith, told .1, sheet-short t (told .0), enough))
 
 -- ---- the longest
 

@@ -11,7 +11,7 @@ use Rattle.recipe.specs.Tables.{Table, rows, procs, xAt, yAt, rootAt}
 use Rattle.recipe.specs.declared.Judged.{Judged}
 use Rattle.writer.specs.Sheets.{sheetOf}
 
--- Whether rows and procedures are not too many, and each row has both its operands. None at all can be written.
+-- Whether rows and procedures are not too many, and there are as many of each operand as rows. No rows, no procedures or neither is right too.
 unfoldable pub sizesWritable : Size → ℕ → ℕ → ℕ → ℕ → Bool
 sizesWritable z rows xs ys procs = leb rows rowCeiling && leb procs (z .procs) && eqb xs rows && eqb ys rows
 
