@@ -127,11 +127,37 @@ fn put_digits(bytes: &mut [u8], at: usize, n: usize) -> usize
     }
 }
 
+// Puts the digits of a number below a hundred.
+fn put_pair(bytes: &mut [u8], at: usize, n: usize) -> usize
+    requires { ⌜ n < 100 ⌝ }
+    ensures { λ r. ⌜ Put (now (bytes .entry)) at (spelled n) (now (bytes .exit)) r ⌝ }
+{
+    if n < 10 {
+        return put_digit(bytes, at, n);
+    }
+    let second = put_digit(bytes, at, n / 10);
+    put_digit(bytes, second, n % 10)
+}
+
+// Puts a number's digits. Up to three are put straight: most numbers of a sheet have no more, and the recursion costs a call for each.
+fn put_short(bytes: &mut [u8], at: usize, n: usize) -> usize
+    ensures { λ r. ⌜ Put (now (bytes .entry)) at (spelled n) (now (bytes .exit)) r ⌝ }
+{
+    if n < 100 {
+        return put_pair(bytes, at, n);
+    }
+    if n < 1000 {
+        let third = put_pair(bytes, at, n / 10);
+        return put_digit(bytes, third, n % 10);
+    }
+    put_digits(bytes, at, n)
+}
+
 // Puts a number and the byte that ends its field, and hands back the next place.
 pub fn put_number(bytes: &mut [u8], at: usize, n: usize, end: u8) -> usize
     ensures { λ r. ⌜ Put (now (bytes .entry)) at (spelled n ++ (end ∷ [])) (now (bytes .exit)) r ⌝ }
 {
-    let next = put_digits(bytes, at, n);
+    let next = put_short(bytes, at, n);
     put_byte(bytes, next, end)
 }
 

@@ -8,7 +8,7 @@ use crate::dice::Dice;
 use crate::panel::{refused, shown, Panel};
 use crate::table::{judge, refusal, Refusal, Row, Table};
 use crate::{gen, sheet, work_out, Answer};
-use crate::{LABELS, LISTING_BYTES, PROCEDURES, ROWS, WRITTEN_BYTES};
+use crate::{LABELS, LISTING_BYTES, PROCEDURES, ROWS, SHEET_BYTES, WRITTEN_BYTES};
 
 /// A difference, and what it was found on.
 pub struct Fault {
@@ -372,13 +372,14 @@ fn written_back(
 }
 
 /// Rooms for the sheet of a table: none, each length near the one that is
-/// needed, and more than is ever needed.
+/// needed, as much as is ever needed, and more, up to the longest sheet's that
+/// is read.
 pub fn rooms(table: &Table) -> Vec<usize> {
     let needed = sheet::write(table, usize::MAX).map_or(16, |bytes| bytes.len());
     let near = needed.saturating_sub(2)..=needed + 2;
     [0].into_iter()
         .chain(near)
-        .chain([WRITTEN_BYTES, WRITTEN_BYTES + 40])
+        .chain([WRITTEN_BYTES, WRITTEN_BYTES + 40, SHEET_BYTES])
         .collect()
 }
 

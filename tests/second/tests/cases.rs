@@ -459,10 +459,11 @@ fn numbers_that_no_sheet_holds() {
 #[test]
 fn sizes_and_kinds_that_are_not_written() {
     // The lengths of kinds, xs, ys and roots.
-    const UNEVEN: [(&str, [usize; 4]); 8] = [
+    const UNEVEN: [(&str, [usize; 4]); 9] = [
         ("kinds short", [7, 8, 8, 3]),
         ("xs short", [8, 7, 8, 3]),
         ("ys short", [8, 8, 7, 3]),
+        ("kinds long", [9, 8, 8, 3]),
         ("xs long", [8, 9, 8, 3]),
         ("ys long", [8, 8, 9, 3]),
         ("no kinds", [0, 8, 8, 3]),
@@ -479,9 +480,11 @@ fn sizes_and_kinds_that_are_not_written() {
     }
     writes("65 procedures", &skips(65), Err((1, 0)));
     writes("1,025 rows", &loops(1025), Err((1, 0)));
-    let many = vec![(0, 0, 0); 70_000];
-    writes("70,000 rows", &table(&many, &[0]), Err((1, 0)));
-    writes("70,000 procedures", &table(&[], &[0; 70_000]), Err((1, 0)));
+    // By their low 16 bits, or by the low 8 of 257, these would be few.
+    let many = vec![(0, 0, 0); 65_540];
+    writes("65,540 rows", &table(&many, &[0]), Err((1, 0)));
+    writes("65,540 procedures", &table(&[], &[0; 65_540]), Err((1, 0)));
+    writes("257 procedures", &table(&[], &[0; 257]), Err((1, 0)));
     for at in PLACES {
         for kind in [7, 8, 128, 255] {
             writes("unknown kind", &with(at, (kind, 0, 0)), Err((3, at.into())));

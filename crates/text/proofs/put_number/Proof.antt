@@ -9,7 +9,7 @@ returns : tie.Need-returns
 returns c =
     let ended = c .before .before in
     let spelt = ended .before .before .before .before in
-    put-behind (spelt .put-digits .ensures) (ended .put-byte .ensures)
+    put-behind (spelt .put-short .ensures) (ended .put-byte .ensures)
 
 pub put-number-spec : {M : Type 1} → statement M
 put-number-spec =
