@@ -96,7 +96,8 @@ module _ {M : Type 1} (𝓤 : URA M) (H : Heap 𝓤) (A : Atoms 𝓤) (mem : Mem
           peeks ! S.the-row (Is S.the-row) (shows 𝓤 H A S.the-row) r (u ∷ [])
           (λ is. land ! (from ! (stop !)) (init ! 11 refl (EL.lawful S.the-type S′.the-laws 𝓤 H A W tt .typed r _ is .0)) $
           codes S.the-row readCode 𝓤 (λ r. fact 𝓤 (WithinCeilings r)) H A W 𝓣 known-coded r u
-          (factI 𝓤 _ (emp 𝓤) (subst WithinCeilings (sym (e .0)) (reading-within _ _ _))) ! (and-then ! (load ! (from ! (stop !)) (look ! 11 refl)) (no-more !)) (λ v n e′ fits.
+          (factI 𝓤 _ (emp 𝓤) (subst WithinCeilings (sym (e .0)) (reading-within _ _ _))) !
+          (and-then ! (load ! (from ! (stop !)) (look ! 11 refl)) (no-more !)) (λ v n e′ fits.
           -- [the number; the tokens; the last values; _8; …]
           land ! (from ! (stop !)) (init ! 19 refl fits) $ returns ! (look ! 19 refl) $ forget ! 3 refl $ forget ! 5 refl $ forget ! 7 refl $ forget ! 9 refl $
           forget ! 11 refl $ forget ! 13 refl $ forget ! 15 refl $ forget ! 17 refl $ forget ! 19 refl $
