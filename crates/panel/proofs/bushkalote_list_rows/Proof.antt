@@ -115,4 +115,5 @@ bushkalote-list-rows-spec 𝓤 H 𝓜 𝓖 𝓡 =
     (code.unfolded 𝓤 H 𝓜 𝓡)
     (meets 𝓤 H (𝓖 .A) (𝓜 .mem) (𝓡 .run) (givenOf 𝓤 H 𝓜 𝓖) (tablesOf 𝓤 H 𝓜 (tables 𝓤 H 𝓜 𝓡 code.env))
     (cited 𝓤 H (Worked 𝓤 H (𝓖 .A) (𝓜 .mem) (𝓡 .run)) 𝓜 𝓡 code.env #records·list-rows worked-def.routine code.calls-records·list-rows (worked-thm.met 𝓤 H 𝓜 𝓖 𝓡))
-    (cited 𝓤 H (Coding S.the-row listedCode 𝓤 (λ _. emp 𝓤) H (𝓖 .A)) 𝓜 𝓡 code.env #panel·listed-code coded-def.routine code.calls-panel·listed-code (coded-thm.met 𝓤 H 𝓜 𝓖 𝓡)))
+    (cited 𝓤 H (Coding S.the-row listedCode 𝓤 (λ _. emp 𝓤) H (𝓖 .A)) 𝓜 𝓡 code.env #panel·listed-code coded-def.routine code.calls-panel·listed-code
+    (coded-thm.met 𝓤 H 𝓜 𝓖 𝓡)))
