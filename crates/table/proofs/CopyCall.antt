@@ -17,9 +17,11 @@ use lib.ListN.{length}
 use types.Kit.{Given, Item, ‵, raw, _⊛_, some, later, Post, runs, lands, Seq, _$_, _∵_, !, qed, move, use1, use2, split, join, fjoin, frame, await, pick, done}
 use types.Run.{Opds}
 use sound.WpLaws.{fmOf}
-use denote.Laws.{Is, shows}
+use denote.RattleType.{RattleType}
+use denote.Laws.{Is, shows, Ises, Tellss}
+use denote.Builtin.{u8, u16, u64}
 use denote.Ref.{RefT, now}
-use denote.Slice.{sliceVal, ShrSlice}
+use denote.Slice.{sliceVal, ShrSlice, MutSlice, slice-vals, shr-slice-tells, mut-slice-tells}
 use denote.Steps.{peeks, heard, nothing}
 use denote.Triple.Call.{calls-at}
 use denote.Triple.Clauses.{ensured, lasts}
@@ -39,6 +41,17 @@ lent x = sliceVal (x .ptr) (length (now x))
 
 abbrev pub Lent : Lft → RefT (List Row) → Fml
 Lent κ x = ShrSlice (named 0) κ R .own x (lent x ∷ [])
+
+-- The machine values of the lent rows, roots, numbers and bytes are those that they spell.
+module _ (κ κ′ κ″ κ‴ : Lft) where
+  abbrev pub four : List RattleType
+  four = ShrSlice (named 0) κ R ∷ ShrSlice (named 1) κ′ u16 ∷ MutSlice (named 2) κ″ u64 ∷ MutSlice (named 3) κ‴ u8 ∷ []
+
+  pub four-tell : Tellss four (Ises four) (slice-vals, (slice-vals, (slice-vals, (slice-vals, tt))))
+  four-tell = (
+    shr-slice-tells (named 0) κ R,
+    (shr-slice-tells (named 1) κ′ u16, (mut-slice-tells (named 2) κ″ u64, (mut-slice-tells (named 3) κ‴ u8, tt))),
+  )
 
 -- the contract that is cited
 abbrev pub CopyIn : {M : Type 1} (𝓤 : URA M) (H : Heap 𝓤) (A : Atoms 𝓤) (mem : Memory → SProp 𝓤) (run : Routine → Fun 𝓤) → Contract 𝓤

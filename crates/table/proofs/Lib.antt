@@ -5,6 +5,7 @@ pub mod CountedLoop
 pub mod LocalArray
 pub mod RowMemory
 pub mod CopyCall
+pub mod CopyHandedOn
 pub mod CopiedTable
 pub mod Unique
 mod Examples

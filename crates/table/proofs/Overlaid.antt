@@ -10,7 +10,18 @@ use native.Mathlib.Omega.{arith}
 use lib.ListN.{length, getD, set, take, drop, length-set, length-append, length-map, List·getD-map}
 use lib.Seq.{drop-cons, take-suc, set-at, length-take-le, take-length, take-append-seam}
 use Rattle.numbers.specs.General.{laid}
+use Rattle.recipe.specs.declared.Row.{Row}
 use Rattle.table.specs.Inner.{overlaid}
+
+-- The fields of a row, which are stored each in its own list.
+abbrev pub kind : Row → ℕ
+kind r = r .kind
+
+abbrev pub first : Row → ℕ
+first r = r .x
+
+abbrev pub second : Row → ℕ
+second r = r .y
 
 module _ {A : Type 0} where
   -- The elements that `overlaid` stores are as many as both lists have.

@@ -15,21 +15,11 @@ Inv-loop numbers most i₀ i = Passed (length numbers) (λ k. ltb most (getD num
 abbrev μ-loop : tie.MeasureT-loop
 μ-loop numbers most i₀ i = length numbers - i
 
-loop-holds : tie.Need-loop-holds Inv-loop μ-loop
-loop-holds c = passed-none _ _
-
-returns : tie.Need-returns Inv-loop μ-loop
-returns c = passed-found _ _ _ (c .before .before .before .loop .inv) (lt-ltb _ _ (c .if1 .taken))
-
-loop-again : tie.Need-loop-again Inv-loop μ-loop
-loop-again c = passed-more _ _ _ (c .before .before .loop-test .taken) (c .before .before .before .loop .inv) (le-ltb _ _ (c .if1 .left))
-
-returns-2 : tie.Need-returns-2 Inv-loop μ-loop
-returns-2 c = passed-all _ _ _ (c .before .loop .inv) (c .loop-test .left)
-
 pub first-above-spec : {M : Type 1} → statement M
 first-above-spec =
     tie.close
     (tie.spec
-    Inv-loop μ-loop loop-holds (λ c. omega arith) (λ c. omega arith) returns (λ c. omega arith) (λ c. omega arith)
-    loop-again returns-2)
+    Inv-loop μ-loop (λ c. passed-none _ _) (λ c. omega arith) (λ c. omega arith)
+    (λ c. passed-found _ _ _ (c .before .before .before .loop .inv) (lt-ltb _ _ (c .if1 .taken))) (λ c. omega arith) (λ c. omega arith)
+    (λ c. passed-more _ _ _ (c .before .before .loop-test .taken) (c .before .before .before .loop .inv) (le-ltb _ _ (c .if1 .left)))
+    (λ c. passed-all _ _ _ (c .before .loop .inv) (c .loop-test .left)))

@@ -13,15 +13,9 @@ use borrow.Author.Needs.{needs}
 use Rattle.records.proofs.analyse_copied.Statement.{statement}
 use Rattle.records.proofs.analyse_copied.Tie as tie
 
--- What was passed, from where it is not too much and from where the columns are taken apart.
-abbrev passed : tie.Else1 → tie.Start
-passed c = c .before .before .before
-
+-- What was passed, from where the columns are taken apart.
 abbrev apart : tie.After-ys → tie.Start
-apart c = passed (c .before .before .before)
-
-abbrev lent : tie.After-ys2 → tie.Start
-lent c = apart (c .before .before .before)
+apart c = c .before .before .before .before .before .before
 
 returns : tie.Need-returns
 returns c =
@@ -46,14 +40,19 @@ array-share-prefix-ys c = let e : length (apart (c .before .before) .args .all .
 slice-aggregate-analyse-3 : tie.Need-slice-aggregate-analyse-3
 slice-aggregate-analyse-3 c = first-n _ _ (search needs) (omega arith)
 
+-- The same, from where they are lent.
+abbrev lent : tie.After-ys2 → tie.Start
+lent c = apart (c .before .before .before)
+
 returns-2 : tie.Need-returns-2
 returns-2 c =
     let worked = c .before .before in
+    let given = worked .analyse .ensures in
     let a = lent (worked .before .before) .args in
     λ rows e copied.
     let same = first-are (a .n) rows (omega arith) e (a .all) (now (a .roots)) copied in (
-      worked .analyse .ensures .0 ∙ ap (λ (t : Table). analysed ours t (length (now (a .matrix)))) same,
-      worked .analyse .ensures .1 ∙ ap (λ (t : Table). matrixAfter ours t (now (a .matrix))) same,
+      given .0 ∙ ap (λ (t : Table). analysed ours t (length (now (a .matrix)))) same,
+      given .1 ∙ ap (λ (t : Table). matrixAfter ours t (now (a .matrix))) same,
     )
 
 pub analyse-copied-spec : {M : Type 1} → statement M

@@ -13,15 +13,9 @@ use borrow.Author.Needs.{needs}
 use Rattle.records.proofs.list_copied.Statement.{statement}
 use Rattle.records.proofs.list_copied.Tie as tie
 
--- What was passed, from where it is not too much and from where the columns are taken apart.
-abbrev passed : tie.Else1 → tie.Start
-passed c = c .before .before .before .before
-
+-- What was passed, from where the columns are taken apart.
 abbrev apart : tie.After-ys → tie.Start
-apart c = passed (c .before .before .before)
-
-abbrev lent : tie.After-ys2 → tie.Start
-lent c = apart (c .before .before .before)
+apart c = c .before .before .before .before .before .before .before
 
 returns : tie.Need-returns
 returns c =
@@ -45,6 +39,10 @@ array-share-prefix-ys c = let e : length (apart (c .before .before) .args .all .
 
 slice-aggregate-list-pairs-3 : tie.Need-slice-aggregate-list-pairs-3
 slice-aggregate-list-pairs-3 c = first-n _ _ (search needs) (omega arith)
+
+-- The same, from where they are lent.
+abbrev lent : tie.After-ys2 → tie.Start
+lent c = apart (c .before .before .before)
 
 returns-2 : tie.Need-returns-2
 returns-2 c =

@@ -31,7 +31,7 @@ use denote.Enum.Laws as EL
 use denote.Struct.Laws as LL
 use denote.Ref.{RefT, name, now}
 use denote.Signature.{plain}
-use denote.Slice.{sliceVal, ShrSlice, MutSlice, Room, finally, slice-vals, shr-slice-tells, mut-slice-tells, shr-slice-copy}
+use denote.Slice.{sliceVal, ShrSlice, MutSlice, Room, finally, slice-vals, shr-slice-copy}
 use denote.Steps.{owned, peeks, heard, nothing}
 use denote.Triple.Call.{calls-at}
 use denote.Triple.Clauses.{ensured, Lasts, lasts}
@@ -52,7 +52,7 @@ use Rattle.table.specs.declared.Columns.{Columns}
 use Rattle.table.proofs.Columns as Cl
 use Rattle.table.proofs.Columns.Laws as Cl′
 use Rattle.table.proofs.RowMemory.{R}
-use Rattle.table.proofs.CopyCall.{lent, Lent, CopyIn, copies}
+use Rattle.table.proofs.CopyCall.{four-tell, lent, Lent, CopyIn, copies}
 use Rattle.table.proofs.copy_in.Symbol as copy-in-def
 use Rattle.table.proofs.copy_in.Symbol.{name as #table·copy-in}
 use Rattle.table.proofs.copy_in.Met as copy-in-thm
@@ -212,14 +212,7 @@ module _ {M : Type 1} (𝓤 : URA M) (H : Heap 𝓤) (A : Atoms 𝓤) (W : Given
   list-rows-walks : Walks 𝓤 H A entry.ended stayed (WpFn 𝓤 H (𝓣 .C) (𝓣 .Λ) code.function) (entry.clauses 𝓤 H A mem run)
   list-rows-walks = walked 𝓤 H A entry.ended stayed (entry.clauses 𝓤 H A mem run) (WpFn 𝓤 H (𝓣 .C) (𝓣 .Λ) code.function)
       (λ κs. (slice-vals, (slice-vals, (slice-vals, (slice-vals, tt)))))
-      (λ κs. (
-        shr-slice-tells (named 0) (κs .0) R,
-        (
-          shr-slice-tells (named 1) (κs .1
-              .0) u16,
-          (mut-slice-tells (named 2) (κs .1 .1 .0) u64, (mut-slice-tells (named 3) (κs .1 .1 .1 .0) u8, tt)),
-        ),
-      ))
+      (λ κs. four-tell (κs .0) (κs .1 .0) (κs .1 .1 .0) (κs .1 .1 .1 .0))
       (λ κs qs bounds a g are. via 𝓤 _ (fst∗ 𝓤 _ (emp 𝓤))
       (walk 𝓤 H A W mem run (κs .0) (κs .1 .0) (κs .1 .1 .0) (κs .1 .1 .1 .0) (qs .0) (qs .1 .0) (qs .1 .1 .0) (qs .1 .1 .1 .0) (a .0) (a .1 .0) (a .1 .1 .0)
       (a .1 .1 .1 .0) 𝓣 known-in known-copied

@@ -56,7 +56,7 @@ use Rattle.recipe.proofs.Row.Laws as T′
 use Rattle.table.specs.Inner.{zeros, blank, column, columnsOf}
 use Rattle.table.specs.declared.Columns.{Columns}
 use Rattle.table.proofs.RowMemory.{R, rowTy, vals, tells, copies, row-typed}
-use Rattle.table.proofs.Overlaid.{stored, length-stored, stored-overlaid}
+use Rattle.table.proofs.Overlaid.{kind, first, second, stored, length-stored, stored-overlaid}
 use Rattle.table.proofs.Columns as Cl
 use Rattle.table.proofs.Columns.Laws as Cl′
 use Rattle.table.proofs.CountedLoop.{counted-loop}
@@ -126,16 +126,6 @@ columns-are ks xs ys p q r = (
 columns-typed : {M : Type 1} (𝓤 : URA M) (H : Heap 𝓤) (A : Atoms 𝓤) (W : Given 𝓤 H A) (c : Columns) (v : Val) → Is Cl.the-row c (v ∷ [])
     → Holds (hasTy columnsTy v) × WT v
 columns-typed 𝓤 H A W c v p = LL.lawful Cl.the-type Cl′.the-laws 𝓤 H A W .typed c (v ∷ []) p .0
-
--- the fields of the rows
-abbrev kind : Row → ℕ
-kind r = r .kind
-
-abbrev first : Row → ℕ
-first r = r .x
-
-abbrev second : Row → ℕ
-second r = r .y
 
 -- the contract that the proof cites
 abbrev Taken : {M : Type 1} (𝓤 : URA M) (H : Heap 𝓤) (A : Atoms 𝓤) (mem : Memory → SProp 𝓤) (run : Routine → Fun 𝓤) → Contract 𝓤

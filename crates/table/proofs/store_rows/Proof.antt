@@ -11,19 +11,9 @@ use Rattle.numbers.specs.Sizes.{rowCeiling}
 use Rattle.recipe.specs.declared.Row.{Row}
 use Rattle.table.specs.Inner.{blank}
 use Rattle.table.specs.Reading.{rowPlaces}
-use Rattle.table.proofs.Overlaid.{Storing, storing-begins, storing-goes-on, storing-ends}
+use Rattle.table.proofs.Overlaid.{kind, first, second, Storing, storing-begins, storing-goes-on, storing-ends}
 use Rattle.table.proofs.store_rows.Statement.{statement}
 use Rattle.table.proofs.store_rows.Tie as tie
-
--- The fields of a row.
-abbrev kind : Row → ℕ
-kind r = r .kind
-
-abbrev first : Row → ℕ
-first r = r .x
-
-abbrev second : Row → ℕ
-second r = r .y
 
 -- As many turns as there are rows and places.
 as-many :

@@ -13,15 +13,9 @@ use borrow.Author.Needs.{needs}
 use Rattle.writer.proofs.write_copied.Statement.{statement}
 use Rattle.writer.proofs.write_copied.Tie as tie
 
--- What was passed, from where it is not too much and from where the columns are taken apart.
-abbrev passed : tie.Else1 → tie.Start
-passed c = c .before .before .before
-
+-- What was passed, from where the columns are taken apart.
 abbrev apart : tie.After-ys → tie.Start
-apart c = passed (c .before .before .before)
-
-abbrev lent : tie.After-ys2 → tie.Start
-lent c = apart (c .before .before .before)
+apart c = c .before .before .before .before .before .before
 
 returns : tie.Need-returns
 returns c =
@@ -46,14 +40,19 @@ array-share-prefix-ys c = let e : length (apart (c .before .before) .args .all .
 slice-aggregate-write-sheet-3 : tie.Need-slice-aggregate-write-sheet-3
 slice-aggregate-write-sheet-3 c = first-n _ _ (search needs) (omega arith)
 
+-- The same, from where they are lent.
+abbrev lent : tie.After-ys2 → tie.Start
+lent c = apart (c .before .before .before)
+
 returns-2 : tie.Need-returns-2
 returns-2 c =
     let worked = c .before .before in
+    let given = worked .write-sheet .ensures in
     let a = lent (worked .before .before) .args in
     λ rows e copied.
     let same = first-are (a .n) rows (omega arith) e (a .all) (now (a .roots)) copied in (
-      worked .write-sheet .ensures .0 ∙ ap (λ (t : Table). written ours t (length (now (a .bytes)))) same,
-      worked .write-sheet .ensures .1 ∙ ap (λ (t : Table). bytesWritten ours t (now (a .bytes))) same,
+      given .0 ∙ ap (λ (t : Table). written ours t (length (now (a .bytes)))) same,
+      given .1 ∙ ap (λ (t : Table). bytesWritten ours t (now (a .bytes))) same,
     )
 
 pub write-copied-spec : {M : Type 1} → statement M

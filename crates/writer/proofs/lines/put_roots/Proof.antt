@@ -16,9 +16,6 @@ Inv-loop bytes₀ at roots next₀ f₀ bytes next f = Writing (length roots) (�
 abbrev μ-loop : tie.MeasureT-loop
 μ-loop bytes₀ at roots next₀ f₀ bytes next f = length roots - f
 
-loop-holds : tie.Need-loop-holds Inv-loop μ-loop
-loop-holds c = begins 0 (omega arith) (λ j h. absurd (omega arith))
-
 loop-again : tie.Need-loop-again Inv-loop μ-loop
 loop-again c =
     let put = c .before .before in
@@ -37,5 +34,5 @@ pub put-roots-spec : {M : Type 1} → statement M
 put-roots-spec =
     tie.close
     (tie.spec
-    Inv-loop μ-loop loop-holds (λ c. omega arith) (λ c. omega arith) (λ c κs. tt) (λ c. omega arith)
-    (λ c. omega arith) loop-again same-length returns)
+    Inv-loop μ-loop (λ c. begins 0 (omega arith) (λ j h. absurd (omega arith))) (λ c. omega arith) (λ c. omega arith)
+    (λ c κs. tt) (λ c. omega arith) (λ c. omega arith) loop-again same-length returns)
