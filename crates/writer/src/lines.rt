@@ -13,6 +13,7 @@ ghost use Rattle.recipe.specs.Tables.{tableOf};
 ghost use Rattle.sheet.specs.Form.{keyword, spelledRow, spelledRoot};
 ghost use Rattle.writer.specs.Sheets.{sheetOf};
 ghost use Rattle.writer.specs.Inner.{rowLines};
+use numbers::RowNumber;
 use recipe::Row;
 use text::digits;
 use text::put_byte;
@@ -69,18 +70,18 @@ fn put_row(bytes: &mut [u8], at: usize, row: Row) -> usize
 }
 
 // The length of a procedure's line. Three bytes are the same in each: `P`, the tab and the newline.
-fn root_length(root: u16) -> usize
-    ensures { λ r. ⌜ (r ≡ length (spelledRoot root)) × (r ≤ 23) ⌝ }
+fn root_length(root: RowNumber) -> usize
+    ensures { λ r. ⌜ (r ≡ length (spelledRoot (root .0))) × (r ≤ 23) ⌝ }
 {
-    digits(root as usize) + 3
+    digits(root.0 as usize) + 3
 }
 
 // Puts a procedure's line.
-fn put_root(bytes: &mut [u8], at: usize, root: u16) -> usize
-    ensures { λ r. ⌜ Put (now (bytes .entry)) at (spelledRoot root) (now (bytes .exit)) r ⌝ }
+fn put_root(bytes: &mut [u8], at: usize, root: RowNumber) -> usize
+    ensures { λ r. ⌜ Put (now (bytes .entry)) at (spelledRoot (root .0)) (now (bytes .exit)) r ⌝ }
 {
     let at = put_text(bytes, at, b"P", b'\t');
-    put_number(bytes, at, root as usize, b'\n')
+    put_number(bytes, at, root.0 as usize, b'\n')
 }
 
 // The length of the lines of all rows.
@@ -132,7 +133,7 @@ fn roots_length(roots: &[u16]) -> usize
     let mut sum = 0;
     let mut f = 0;
     while f < roots.len() {
-        sum += root_length(roots[f]);
+        sum += root_length(RowNumber(roots[f]));
         f += 1;
     }
     sum
@@ -145,7 +146,7 @@ fn put_roots(bytes: &mut [u8], at: usize, roots: &[u16]) -> usize
     let mut next = at;
     let mut f = 0;
     while f < roots.len() {
-        next = put_root(bytes, next, roots[f]);
+        next = put_root(bytes, next, RowNumber(roots[f]));
         f += 1;
     }
     next

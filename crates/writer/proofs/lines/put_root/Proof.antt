@@ -13,11 +13,11 @@ returns : tie.Need-returns
 unfolding spelledRoot
 returns c =
     let number = c .before .before in
-    let mark = number .before .before .before .before in
-    put-first (ascii "P") (spelled (mark .before .before .before .before .args .root)) [] (mark .put-text .ensures) (number .put-number .ensures)
+    let mark = number .before .before .before .before .before in
+    put-first (ascii "P") (spelled (mark .before .before .before .before .args .root .0)) [] (mark .put-text .ensures) (number .put-number .ensures)
 
 pub put-root-spec : {M : Type 1} → statement M
 put-root-spec =
     tie.close
     (tie.spec
-    (λ c. search needs) (λ c κs. search needs) (λ c κs. search needs) (λ c. search needs) returns)
+    (λ c. search needs) (λ c κs. search needs) (λ c. search needs) (λ c κs. search needs) (λ c. search needs) returns)

@@ -10,7 +10,7 @@ use Rattle.writer.proofs.lines.root_length.Tie as tie
 
 returns : tie.Need-returns
 returns c =
-    (ap (λ (n : ℕ). n + 3) (c .digits .ensures .0) ∙ sym (length-root-line (c .before .args .root)), omega arith)
+    (ap (λ (n : ℕ). n + 3) (c .digits .ensures .0) ∙ sym (length-root-line (c .before .before .args .root .0)), omega arith)
 
 pub root-length-spec : {M : Type 1} → statement M
-root-length-spec = tie.close (tie.spec (λ c κs. search needs) (λ c. omega arith) returns)
+root-length-spec = tie.close (tie.spec (λ c. search needs) (λ c κs. search needs) (λ c. omega arith) returns)
