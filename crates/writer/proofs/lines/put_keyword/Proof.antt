@@ -8,59 +8,31 @@ use Rattle.text.specs.Bytes.{tab}
 use Rattle.text.specs.Inner.{Put}
 use Rattle.text.proofs.LineLaws.{ended}
 use Rattle.sheet.specs.Form.{keyword}
-use Rattle.writer.proofs.KeywordLaws.{no-keyword}
+use Rattle.writer.proofs.KeywordLaws.{no-keyword, keyword-put}
 use borrow.Author.Needs.{needs}
 use Rattle.writer.proofs.lines.put_keyword.Statement.{statement}
 use Rattle.writer.proofs.lines.put_keyword.Tie as tie
 
 returns : tie.Need-returns
-returns c =
-    let put = c .before .before .put-text in
-    let arm = c .before .before .before .before .before in
-    let a = arm .before .before .args in
-    subst (λ (k : ℕ). Put (now (a .bytes)) (a .at) (ended (keyword k) tab) (put .last .0) (put .result)) (sym (arm .match .keys1)) (put .ensures)
+returns c = keyword-put (c .before .before .before .before .before .match .keys1) (c .before .before .put-text .ensures)
 
 returns-2 : tie.Need-returns-2
-returns-2 c =
-    let put = c .before .before .put-text2 in
-    let arm = c .before .before .before .before .before in
-    let a = arm .before .before .args in
-    subst (λ (k : ℕ). Put (now (a .bytes)) (a .at) (ended (keyword k) tab) (put .last .0) (put .result)) (sym (arm .match .keys2)) (put .ensures)
+returns-2 c = keyword-put (c .before .before .before .before .before .match .keys2) (c .before .before .put-text2 .ensures)
 
 returns-3 : tie.Need-returns-3
-returns-3 c =
-    let put = c .before .before .put-text3 in
-    let arm = c .before .before .before .before .before in
-    let a = arm .before .before .args in
-    subst (λ (k : ℕ). Put (now (a .bytes)) (a .at) (ended (keyword k) tab) (put .last .0) (put .result)) (sym (arm .match .keys3)) (put .ensures)
+returns-3 c = keyword-put (c .before .before .before .before .before .match .keys3) (c .before .before .put-text3 .ensures)
 
 returns-4 : tie.Need-returns-4
-returns-4 c =
-    let put = c .before .before .put-text4 in
-    let arm = c .before .before .before .before .before in
-    let a = arm .before .before .args in
-    subst (λ (k : ℕ). Put (now (a .bytes)) (a .at) (ended (keyword k) tab) (put .last .0) (put .result)) (sym (arm .match .keys4)) (put .ensures)
+returns-4 c = keyword-put (c .before .before .before .before .before .match .keys4) (c .before .before .put-text4 .ensures)
 
 returns-5 : tie.Need-returns-5
-returns-5 c =
-    let put = c .before .before .put-text5 in
-    let arm = c .before .before .before .before .before in
-    let a = arm .before .before .args in
-    subst (λ (k : ℕ). Put (now (a .bytes)) (a .at) (ended (keyword k) tab) (put .last .0) (put .result)) (sym (arm .match .keys5)) (put .ensures)
+returns-5 c = keyword-put (c .before .before .before .before .before .match .keys5) (c .before .before .put-text5 .ensures)
 
 returns-6 : tie.Need-returns-6
-returns-6 c =
-    let put = c .before .before .put-text6 in
-    let arm = c .before .before .before .before .before in
-    let a = arm .before .before .args in
-    subst (λ (k : ℕ). Put (now (a .bytes)) (a .at) (ended (keyword k) tab) (put .last .0) (put .result)) (sym (arm .match .keys6)) (put .ensures)
+returns-6 c = keyword-put (c .before .before .before .before .before .match .keys6) (c .before .before .put-text6 .ensures)
 
 returns-7 : tie.Need-returns-7
-returns-7 c =
-    let put = c .before .before .put-text7 in
-    let arm = c .before .before .before .before .before in
-    let a = arm .before .before .args in
-    subst (λ (k : ℕ). Put (now (a .bytes)) (a .at) (ended (keyword k) tab) (put .last .0) (put .result)) (sym (arm .match .keys7)) (put .ensures)
+returns-7 c = keyword-put (c .before .before .before .before .before .match .keys7) (c .before .before .put-text7 .ensures)
 
 returns-8 : tie.Need-returns-8
 returns-8 c =
