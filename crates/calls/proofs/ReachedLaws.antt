@@ -7,13 +7,14 @@ use Prim.Native.Nat.{ℕ, zero, suc, _<_}
 use native.Mathlib.Nat.{eq-or-lt-of-le, le-of-suc-le-suc, not-suc-le-zero}
 use native.Mathlib.Decide.{decLt}
 use native.Mathlib.Omega.{arith}
+use lib.Dec.{eqb}
 use lib.ListN.{length, List·getD-eq-default}
 use borrow.Author.Tests.{eqb-true, eq-eqb, not-true, not-false}
 use Rattle.calculus.specs.Syntax.{Stmt, skip, step, seq, loop, async, finish, call, Program, body}
-use Rattle.calculus.specs.Calls.{CallsIn, Calls, Reaches, one, more, NoSelfCall}
+use Rattle.calculus.specs.Calls.{CallsIn, Calls, Reaches, one, more, SelfCalling, FromMain, NoSelfCall}
 use Rattle.numbers.specs.General.{every}
 use Rattle.numbers.proofs.EveryLaws.{some-fails, every-passes}
-use Rattle.calls.specs.Reached.{calling, reached, reachesItself, wide}
+use Rattle.calls.specs.Reached.{calling, reached, reachesItself, fromMain, wide}
 
 either-true : (a b : Bool) → (a || b) ≡ true → (a ≡ true) ⊎ (b ≡ true)
 either-true true b e = inl refl
@@ -127,21 +128,41 @@ module _ (p : Program) where
       follow (more {f = f} {g = g} {h = h} c r) =
           through-closed (length p) g f h (start-below r) (through-call (length p) f g c) (follow r)
 
-  pub wide-some : wide p ≡ true → (f : ℕ) × Reaches p f f
+  -- the computed test whether f is main or reached from it is the relation
+  pub from-main : (f : ℕ) → fromMain p f ≡ true → FromMain p f
+  from-main f e =
+      ⊎-elim (λ h. inl (eqb-true f 0 h)) (λ h. inr (reached-reaches (length p) 0 f h))
+      (either-true (eqb f 0) (reached p (length p) 0 f) e)
+
+  pub main-from : (f : ℕ) → FromMain p f → fromMain p f ≡ true
+  main-from f (inl e) = first-true (eqb f 0) (reached p (length p) 0 f) (eq-eqb f 0 e)
+  main-from f (inr r) = second-true (eqb f 0) (reached p (length p) 0 f) (reaches-reached 0 f r)
+
+  -- wide: some procedure that main can reach, main included, can reach itself
+  pub wide-some : wide p ≡ true → (f : ℕ) × (FromMain p f × SelfCalling p f)
   wide-some e =
-      let found = some-fails (λ f. not (reachesItself p f)) (length p) (not-true _ e) in
-      (found .0, reached-reaches (length p) (found .0) (found .0) (not-false _ (found .1)))
+      let found = some-fails (λ f. not (fromMain p f && reachesItself p f)) (length p) (not-true _ e) in
+      let f = found .0 in
+      let both = and-eq-true-iff (fromMain p f) (reachesItself p f) .0 (not-false _ (found .1)) in
+      (f, (from-main f (both .0), reached-reaches (length p) f f (both .1)))
 
-  exact-not-itself : wide p ≡ false → (f : ℕ) → Reaches p f f → ⊥
-  exact-not-itself e f r =
-      true≢false (sym (reaches-reached f f r) ∙ not-true _ (every-passes (λ f. not (reachesItself p f)) (length p) (not-false _ e) f (start-below r)))
+  -- exact: none
+  pub exact-no-self-call : wide p ≡ false → NoSelfCall p
+  exact-no-self-call e f main r =
+      true≢false
+      (sym (and-eq-true-iff (fromMain p f) (reachesItself p f) .1 (main-from f main, reaches-reached f f r))
+      ∙ not-true _ (every-passes (λ f. not (fromMain p f && reachesItself p f)) (length p) (not-false _ e) f (start-below r)))
 
-  pub some-wide : (f : ℕ) → Reaches p f f → wide p ≡ true
-  some-wide f r = go (wide p) refl
+  pub some-wide : (f : ℕ) → FromMain p f → SelfCalling p f → wide p ≡ true
+  some-wide f main r = go (wide p) refl
     where
       go : (b : Bool) → wide p ≡ b → b ≡ true
       go true e = refl
-      go false e = absurd (exact-not-itself e f r)
+      go false e = absurd (exact-no-self-call e f main r)
 
-  pub exact-no-self-call : wide p ≡ false → NoSelfCall p
-  exact-no-self-call e f main = exact-not-itself e f
+  pub no-self-call-exact : NoSelfCall p → wide p ≡ false
+  no-self-call-exact none = go (wide p) refl
+    where
+      go : (b : Bool) → wide p ≡ b → b ≡ false
+      go false e = refl
+      go true e = let found = wide-some e in absurd (none (found .0) (found .1 .0) (found .1 .1))

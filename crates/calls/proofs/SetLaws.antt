@@ -1,19 +1,20 @@
 -- A set of procedures as a word: its bits say which procedures a statement calls, and, closed, which a procedure reaches.
 -- Assumes nothing.
 use mathlib.Core.Path.{_≡_, refl, sym, ap, ap₂, _∙_, subst}
-use mathlib.Core.Bool.{Bool, true, false, not, _&&_, _||_}
+use mathlib.Core.Bool.{Bool, true, false, not, _&&_, _||_, and-self}
 use mathlib.Core.List.{List}
 use Prim.Native.Nat.{ℕ, zero, suc, _+_, _*_, _≤_, _<_, min, max}
 use native.Mathlib.Nat.{le-refl}
 use native.Mathlib.Numerals.{add-one}
 use native.Mathlib.Omega.{arith}
-use lib.Bits.{bitOr}
+use lib.Bits.{bitAnd, bitOr}
 use lib.Dec.{eqb}
+use borrow.Author.Tests.{ne-eqb}
 use lib.ListN.{length, getD}
 use Rattle.numbers.proofs.EveryLaws.{every-alike}
 use Rattle.calculus.specs.Syntax.{Stmt, skip, step, seq, loop, async, finish, call, Program, body}
 use Rattle.labels.specs.Words.{bit}
-use Rattle.labels.proofs.BitLaws.{bit-lt, bit-of-zero, bit-or, bit-times, bit-of-power}
+use Rattle.labels.proofs.BitLaws.{bit-lt, bit-of-zero, bit-or, bit-and, bit-times, bit-of-power}
 use Rattle.labels.proofs.ChangedLaws.{length-changed, changed-below}
 use Rattle.numbers.specs.General.{oneIf, every}
 use Rattle.calls.specs.Inner.{callsOf, directCalls, throughAlso, closedBelow, noneInOwn}
@@ -31,9 +32,12 @@ min-and true false = refl
 min-and false true = refl
 min-and false false = refl
 
-none-is-not : (b : Bool) → eqb (oneIf b) 0 ≡ not b
-none-is-not true = refl
-none-is-not false = refl
+-- Both are told by the lower of their numbers.
+none-is-not : (a b : Bool) → eqb (min (oneIf a) (oneIf b)) 0 ≡ not (a && b)
+none-is-not true true = refl
+none-is-not true false = refl
+none-is-not false true = refl
+none-is-not false false = refl
 
 -- one procedure more
 pub closed-more : (n k : ℕ) (sets : List ℕ) → throughAlso n k (closedBelow n k sets) ≡ closedBelow n (k + 1) sets
@@ -80,9 +84,23 @@ module _ (p : Program) (n : ℕ) (sets : List ℕ) (room : n ≤ length sets) wh
       ∙ min-and (reached p k f k) (reached p k k g))
       ∙ max-or (reached p k f g) (reached p k f k && reached p k k g)
 
-  -- The closed sets tell whether a procedure reaches itself.
+  -- The closed sets tell whether a procedure that main reaches reaches itself; main does if it is in its own set.
   pub sets-wide : n ≡ length p → not (noneInOwn n (closed n)) ≡ wide p
   sets-wide size =
       ap not
-      (subst (λ (m : ℕ). noneInOwn n (closed n) ≡ every m (λ f. not (reached p m f f))) size
-      (every-alike n _ _ (λ f l. ap (λ (x : ℕ). eqb x 0) (closed-bit n (le-refl n) f l f) ∙ none-is-not (reached p n f f))))
+      (subst (λ (m : ℕ). noneInOwn n (closed n) ≡ every m (λ f. not ((eqb f 0 || reached p m 0 f) && reached p m f f))) size
+      (every-alike n _ _ own))
+    where
+      main-too : (f : ℕ) → not (reached p n 0 f && reached p n f f) ≡ not ((eqb f 0 || reached p n 0 f) && reached p n f f)
+      main-too zero = ap not (and-self (reached p n 0 0))
+      main-too (suc f) = rw (ne-eqb (suc f) 0 (λ e. omega arith)) refl
+
+      own :
+          (f : ℕ) → f < n
+          → eqb (bit (bitAnd (getD (closed n) 0 0) (getD (closed n) f 0)) f) 0 ≡ not ((eqb f 0 || reached p n 0 f) && reached p n f f)
+      own f l =
+          ap (λ (x : ℕ). eqb x 0)
+          (bit-and (getD (closed n) 0 0) (getD (closed n) f 0) f
+          ∙ ap₂ min (closed-bit n (le-refl n) 0 (omega arith) f) (closed-bit n (le-refl n) f l f))
+          ∙ none-is-not (reached p n 0 f) (reached p n f f)
+          ∙ main-too f

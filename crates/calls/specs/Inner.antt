@@ -2,7 +2,7 @@
 use mathlib.Core.Bool.{Bool}
 use mathlib.Core.List.{List}
 use Prim.Native.Nat.{ℕ, zero, suc, _*_, _^_}
-use lib.Bits.{bitOr}
+use lib.Bits.{bitAnd, bitOr}
 use lib.Dec.{eqb}
 use lib.ListN.{getD}
 use Rattle.calculus.specs.Syntax.{Stmt, skip, step, seq, loop, async, finish, call, Program, body}
@@ -32,6 +32,6 @@ unfoldable pub closedBelow : ℕ → ℕ → List ℕ → List ℕ
 closedBelow n zero sets = sets
 closedBelow n (suc k) sets = throughAlso n k (closedBelow n k sets)
 
--- Whether none of the first n procedures is in its own set.
+-- Whether none of the first n procedures is both in the set of main and in its own.
 abbrev pub noneInOwn : ℕ → List ℕ → Bool
-noneInOwn n sets = every n (λ f. eqb (bit (getD sets f 0) f) 0)
+noneInOwn n sets = every n (λ f. eqb (bit (bitAnd (getD sets 0 0) (getD sets f 0)) f) 0)

@@ -25,6 +25,10 @@ reached p (suc k) f g = reached p k f g || (reached p k f k && reached p k k g)
 abbrev pub reachesItself : Program → ℕ → Bool
 reachesItself p f = reached p (length p) f f
 
--- Whether some procedure of the program, called or not, can reach itself by calls.
+-- Whether f is main, or main can reach f by calls.
+abbrev pub fromMain : Program → ℕ → Bool
+fromMain p f = eqb f 0 || reached p (length p) 0 f
+
+-- Whether some procedure that main can reach by calls, main included, can reach itself by calls.
 abbrev pub wide : Program → Bool
-wide p = not (every (length p) (λ f. not (reachesItself p f)))
+wide p = not (every (length p) (λ f. not (fromMain p f && reachesItself p f)))

@@ -9,7 +9,7 @@ mod reach;
 use numbers::Refusal;
 use recipe::Judged;
 
-// Exact where no procedure, called or not, can reach itself by calls, wide where one can.
+// Wide where some procedure that main can reach by calls, main included, can reach itself by calls, exact where none can.
 pub enum Verdict {
     Exact,
     Wide,

@@ -90,22 +90,23 @@ fn close(reach: &mut [u64], n: usize)
     }
 }
 
-// Whether none of n procedures is in its own set.
+// Whether none of n procedures is both in the set of main and in its own. Main is in its own if it reaches itself, so it is no case apart.
 fn none_in_own(reach: &[u64], n: usize) -> bool
-    requires { ⌜ (n ≤ length (now reach)) × (n ≤ ours .procs) ⌝ }
+    requires { ⌜ (0 < n) × ((n ≤ length (now reach)) × (n ≤ ours .procs)) ⌝ }
     ensures { λ r. ⌜ r ≡ noneInOwn n (now (reach .entry)) ⌝ }
 {
+    let main = reach[0];
     let mut f = n;
     while 0 < f {
         f -= 1;
-        if bit_of(reach[f], ProcNumber(f as u16)) != 0 {
+        if bit_of(main & reach[f], ProcNumber(f as u16)) != 0 {
             return false;
         }
     }
     true
 }
 
-// Whether any procedure of an admitted table, called or not, reaches itself.
+// Whether some procedure that main of an admitted table reaches, main included, reaches itself.
 pub(crate) fn reaches_itself(kinds: &[u8], xs: &[u16], ys: &[u16], roots: &[u16]) -> bool
     requires { ⌜ admitted ours (tableOf (now kinds) (now xs) (now ys) (now roots)) ⌝ }
     ensures { λ r. let t = tableOf (now (kinds .entry)) (now (xs .entry)) (now (ys .entry)) (now (roots .entry)) in ⌜ r ≡ wide (programOf t) ⌝ }

@@ -5,6 +5,7 @@ use mathlib.Core.Bool.{Bool, true, false}
 use Prim.Native.Nat.{ℕ, _-_, _≤_}
 use native.Mathlib.Omega.{arith}
 use denote.Ref.{now}
+use lib.Bits.{bitAnd}
 use lib.Dec.{eqb}
 use lib.ListN.{getD}
 use borrow.Author.Tests.{eq-eqb, ne-eqb}
@@ -16,17 +17,17 @@ use Rattle.calls.proofs.reach.none_in_own.Statement.{statement}
 use Rattle.calls.proofs.reach.none_in_own.Tie as tie
 
 abbrev Inv-loop : tie.InvT-loop
-Inv-loop reach n f₀ f = (f ≤ n) × (noneInOwn n reach ≡ noneInOwn f reach)
+Inv-loop reach n main f₀ f = (f ≤ n) × (noneInOwn n reach ≡ noneInOwn f reach)
 
 abbrev μ-loop : tie.MeasureT-loop
-μ-loop reach n f₀ f = f
+μ-loop reach n main f₀ f = f
 
 -- The loop's head, from the end of a turn, and the test of one procedure.
 abbrev head : tie.After-bit-of Inv-loop μ-loop → tie.At-loop Inv-loop μ-loop
 head c = c .before .before .before
 
 abbrev own : tie.At-loop Inv-loop μ-loop → ℕ → Bool
-own c f = eqb (bit (getD (now (c .before .before .args .reach)) f 0) f) 0
+own c f = let sets = now (c .before .before .before .args .reach) in eqb (bit (bitAnd (getD sets 0 0) (getD sets f 0)) f) 0
 
 loop-holds : tie.Need-loop-holds Inv-loop μ-loop
 loop-holds c = (omega arith, refl)
@@ -52,5 +53,5 @@ pub none-in-own-spec : {M : Type 1} → statement M
 none-in-own-spec =
     tie.close
     (tie.spec
-    Inv-loop μ-loop loop-holds (λ c. omega arith) (λ c. omega arith) (λ c. omega arith) (λ c. omega arith)
+    Inv-loop μ-loop (λ c. omega arith) loop-holds (λ c. omega arith) (λ c. omega arith) (λ c. omega arith) (λ c. omega arith)
     (λ c κs. omega arith) returns (λ c. omega arith) loop-again returns-2)

@@ -26,9 +26,12 @@ before-direct c = c .before .before .before
 abbrev before-close : tie.After-reach5 → tie.After-reach3
 before-close c = c .before .before .before
 
--- The table, and that its procedures are few.
+-- The table, and that it has some procedures, and few.
 abbrev table : tie.After-reach → Table
 table c = let a = start c .args in tableOf (now (a .kinds)) (now (a .xs)) (now (a .ys)) (now (a .roots))
+
+some : (c : tie.After-reach) → 1 ≤ procs (table c)
+some c = sizes-right ours (table c) (start c .pre) .some-procs
 
 few : (c : tie.After-reach) → procs (table c) ≤ ours .procs
 few c = sizes-right ours (table c) (start c .pre) .few-procs
@@ -42,7 +45,13 @@ close-requires c κs = omega (arith, few (before-direct c), c .before .before .d
 none-in-own-requires : tie.Need-none-in-own-requires
 none-in-own-requires c κs =
     let d = before-close c in
-    omega (arith, few (before-direct d), d .before .before .direct-calls .kept .0, c .before .before .close .kept .0)
+    omega (
+      arith,
+      some (before-direct d),
+      few (before-direct d),
+      d .before .before .direct-calls .kept .0,
+      c .before .before .close .kept .0,
+    )
 
 returns : tie.Need-returns
 returns c =
