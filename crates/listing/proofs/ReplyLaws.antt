@@ -21,10 +21,6 @@ use Rattle.recipe.proofs.Judging.{sizes-test}
 use Rattle.recipe.proofs.Admitted.{sizes-right}
 use Rattle.recipe.proofs.WithMatrix.{whole-matrix}
 use Rattle.calls.specs.Reached.{wide}
-use Rattle.calls.specs.Verdicts.{verdictOn}
-use Rattle.calls.specs.declared.Verdict.{Verdict}
-use Rattle.calls.specs.declared.Verdict.the-variants as verdict
-use Rattle.calls.proofs.VerdictLaws.{admitted-verdict}
 use Rattle.analysis.specs.Replies.{rounds, mainPairs, analysed, matrixAfter}
 use Rattle.analysis.specs.declared.Analysed.the-variants as analysis
 use Rattle.analysis.proofs.ReplyLaws.{admitted-reply}
@@ -76,30 +72,6 @@ module _ (z : Size) (t : Table) (ok : admitted z t) where
       sym (admitted-reply z t m (admitted-still m (le-of-eq (sym e))) refl refl .1)
       ∙ ap (λ (x : List ℕ). mainPairs w p ++ x) (drop-of-length-le m (le-of-eq (e ∙ sym (shaped-after w p (rounds w p) 0 .M .size))))
       ∙ append-nil (mainPairs w p)
-
-  by-verdict : (b : Bool) → wide p ≡ b → {v : Verdict} → v ≡ verdictOn z t → v ≡ cond b verdict.Wide verdict.Exact
-  by-verdict b e f = f ∙ sym (admitted-verdict z t ok (sym e) refl)
-
-  pub wide-given : verdict.Wide ≡ verdictOn z t → true ≡ wide p
-  wide-given e = go (wide p) refl
-    where
-      go : (b : Bool) → wide p ≡ b → true ≡ wide p
-      go true f = sym f
-      go false f = let n : _≡_ {A = ℕ} 0 1 = cc (by-verdict false f e) in absurd (omega arith)
-
-  pub exact-given : verdict.Exact ≡ verdictOn z t → false ≡ wide p
-  exact-given e = go (wide p) refl
-    where
-      go : (b : Bool) → wide p ≡ b → false ≡ wide p
-      go false f = sym f
-      go true f = let n : _≡_ {A = ℕ} 0 1 = cc (by-verdict true f e) in absurd (omega arith)
-
-  pub verdict-not-refused : {r : Refusal} → verdict.Refused r ≡ verdictOn z t → ⊥
-  verdict-not-refused {r} e = go (wide p) refl
-    where
-      go : (b : Bool) → wide p ≡ b → ⊥
-      go false f = let n : _≡_ {A = ℕ} 0 1 = cc (by-verdict false f e) in omega arith
-      go true f = let n : _≡_ {A = ℕ} 0 1 = cc (by-verdict true f e) in omega arith
 
 -- What is handed over for a text and the pairs that it lists.
 pub record Handed (text pairs m b : List ℕ) (r : Listed) (m' b' : List ℕ) : Type 0 where

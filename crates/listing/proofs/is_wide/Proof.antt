@@ -1,10 +1,10 @@
--- `is_wide` meets its contract: the verdict on an admitted table is never a refusal, and says whether a procedure reaches itself.
+-- `is_wide` meets its contract: the verdict on an admitted table is never a refusal, and says whether the program is wide.
 -- Assumes nothing.
 use mathlib.Core.Path.{sym, _∙_}
 use denote.Ref.{now}
 use Rattle.numbers.specs.Sizes.{ours}
 use Rattle.recipe.specs.Tables.{Table, tableOf}
-use Rattle.listing.proofs.ReplyLaws.{wide-given, exact-given, verdict-not-refused}
+use Rattle.calls.proofs.VerdictLaws.{wide-given, exact-given, verdict-not-refused}
 use borrow.Author.Needs.{needs}
 use Rattle.listing.proofs.is_wide.Statement.{statement}
 use Rattle.listing.proofs.is_wide.Tie as tie
