@@ -99,7 +99,8 @@ fn none_in_own(reach: &[u64], n: usize) -> bool
     let mut f = n;
     while 0 < f {
         f -= 1;
-        if bit_of(main & reach[f], ProcNumber(f as u16)) != 0 {
+        let own = reach[f];
+        if bit_of(main & own, ProcNumber(f as u16)) != 0 {
             return false;
         }
     }

@@ -36,13 +36,13 @@ returns : tie.Need-returns Inv-loop μ-loop
 returns c =
     let d = head (c .before) in
     let set : own d (d .loop .f - 1) ≡ false = ne-eqb _ _ (λ e. c .if1 .taken (c .before .bit-of .ensures ∙ e)) in
-    sym (d .loop .inv .1 ∙ fails-down (own d) (d .loop .f) (c .before .before .before .loop-test .taken) set)
+    sym (d .loop .inv .1 ∙ fails-down (own d) (d .loop .f) (omega arith) set)
 
 loop-again : tie.Need-loop-again Inv-loop μ-loop
 loop-again c =
     let d = head (c .before) in
     let unset : own d (d .loop .f - 1) ≡ true = eq-eqb _ _ (sym (c .before .bit-of .ensures) ∙ c .if1 .left) in
-    (omega (arith, d .loop .inv .0), d .loop .inv .1 ∙ passes-down (own d) (d .loop .f) (c .before .before .before .loop-test .taken) unset)
+    (omega (arith, d .loop .inv .0), d .loop .inv .1 ∙ passes-down (own d) (d .loop .f) (omega arith) unset)
 
 returns-2 : tie.Need-returns-2 Inv-loop μ-loop
 returns-2 c =
