@@ -229,7 +229,10 @@ static size_t settle(const struct recipe *t, const uint8_t owner[ROWS], uint64_t
     }
 }
 
-/* True if some procedure reaches itself by calls: reachable sets as 64-bit numbers. */
+/*
+ * True if some procedure that main reaches by calls, main included, reaches itself by calls: reachable sets as 64-bit
+ * numbers. Main is in its own set if it reaches itself, and needs no case of its own.
+ */
 static int is_wide(const struct recipe *t, const uint8_t owner[ROWS])
 {
     uint64_t reach[PROCEDURES] = {0};
@@ -242,7 +245,7 @@ static int is_wide(const struct recipe *t, const uint8_t owner[ROWS])
             if (reach[p] >> via & 1)
                 reach[p] |= reach[via];
     for (size_t p = 0; p < t->procedures; p++)
-        if (reach[p] >> p & 1)
+        if ((reach[0] & reach[p]) >> p & 1)
             return 1;
     return 0;
 }

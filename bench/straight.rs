@@ -214,7 +214,8 @@ fn settle(
     }
 }
 
-/// True if some procedure reaches itself by calls: reachable sets as 64-bit numbers.
+/// True if some procedure that main reaches by calls, main included, reaches itself by calls: reachable sets as 64-bit
+/// numbers. Main is in its own set if it reaches itself, and needs no case of its own.
 fn wide(kinds: &[u8], xs: &[u16], procedures: usize, owner: &[u8; ROWS]) -> bool {
     let mut reach = [0u64; PROCEDURES];
     for r in 0..kinds.len() {
@@ -229,7 +230,7 @@ fn wide(kinds: &[u8], xs: &[u16], procedures: usize, owner: &[u8; ROWS]) -> bool
             }
         }
     }
-    (0..procedures).any(|p| reach[p] >> p & 1 == 1)
+    (0..procedures).any(|p| (reach[0] & reach[p]) >> p & 1 == 1)
 }
 
 fn digits(n: usize) -> usize {

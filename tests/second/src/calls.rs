@@ -21,20 +21,34 @@ pub fn called(table: &Table) -> Vec<Vec<usize>> {
         .collect()
 }
 
-/// True if some procedure, called or not, comes back to itself by one or more calls.
-pub fn some_procedure_reaches_itself(table: &Table) -> bool {
-    let called = called(table);
-    (0..called.len()).any(|start| {
-        let mut seen = vec![false; called.len()];
-        let mut open = called[start].clone();
-        while let Some(p) = open.pop() {
-            if p == start {
-                return true;
-            }
-            if !std::mem::replace(&mut seen[p], true) {
-                open.extend(&called[p]);
-            }
+/// Which procedures `start` comes to by one or more calls.
+fn reached(called: &[Vec<usize>], start: usize) -> Vec<bool> {
+    let mut seen = vec![false; called.len()];
+    let mut open = called[start].clone();
+    while let Some(p) = open.pop() {
+        if !std::mem::replace(&mut seen[p], true) {
+            open.extend(&called[p]);
         }
-        false
-    })
+    }
+    seen
+}
+
+/// For each procedure: whether main reaches it by calls, main included, and
+/// whether it comes back to itself by calls.
+fn reached_and_self_calling(table: &Table) -> Vec<(bool, bool)> {
+    let called = called(table);
+    let from_main = reached(&called, 0);
+    (0..called.len())
+        .map(|p| (p == 0 || from_main[p], reached(&called, p)[p]))
+        .collect()
+}
+
+/// True if some procedure that main reaches, main included, comes back to itself.
+pub fn main_reaches_a_self_caller(table: &Table) -> bool {
+    reached_and_self_calling(table).contains(&(true, true))
+}
+
+/// True if some procedure that main does not reach comes back to itself.
+pub fn has_an_unreached_self_caller(table: &Table) -> bool {
+    reached_and_self_calling(table).contains(&(false, true))
 }

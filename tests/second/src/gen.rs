@@ -172,10 +172,15 @@ pub fn of_size(dice: &mut Dice, rows: usize, procedures: usize) -> Table {
     grown(dice, rows, procedures)
 }
 
-/// The same recipe with its procedures numbered otherwise.
+/// The same recipe with its procedures numbered otherwise, main too.
 fn renumbered(dice: &mut Dice, table: &Table) -> Table {
     let mut new_number: Vec<usize> = (0..table.roots.len()).collect();
     dice.shuffle(&mut new_number);
+    numbered(table, &new_number)
+}
+
+/// The recipe with a new number for each procedure.
+fn numbered(table: &Table, new_number: &[usize]) -> Table {
     let mut changed = table.clone();
     for (p, &root) in table.roots.iter().enumerate() {
         changed.roots[new_number[p]] = root;
@@ -188,8 +193,48 @@ fn renumbered(dice: &mut Dice, table: &Table) -> Table {
     changed
 }
 
+/// The recipe with up to three procedures more that main does not reach: each
+/// calls itself, one of the others that were added, or anybody. Main stays
+/// procedure 0, the others are numbered anew.
+pub fn with_unreached(dice: &mut Dice, table: &Table) -> Table {
+    let mut table = table.clone();
+    let before = table.roots.len();
+    let places = (PROCEDURES - before).min((ROWS - table.rows()) / 3);
+    let after = before + dice.between(1, 3).min(places);
+    for p in before..after {
+        let target = match dice.below(4) {
+            0 | 1 => p,
+            2 => dice.between(before, after - 1),
+            _ => dice.below(after),
+        };
+        let called = table.push(6, target, 0);
+        let root = match dice.below(3) {
+            0 => called,
+            1 => table.push(dice.one_of(&[3, 4, 5]), called, 0),
+            _ => {
+                let step = table.push(1, dice.below(64), 0);
+                table.push(2, step, called)
+            }
+        };
+        table.roots.push(root as u16);
+    }
+    let mut new_number: Vec<usize> = (0..after).collect();
+    dice.shuffle(&mut new_number[1..]);
+    numbered(&table, &new_number)
+}
+
 /// A recipe that the judge admits.
 pub fn recipe(dice: &mut Dice) -> Table {
+    let table = shape(dice);
+    if dice.chance(25) {
+        with_unreached(dice, &table)
+    } else {
+        table
+    }
+}
+
+/// A recipe of one of the shapes.
+fn shape(dice: &mut Dice) -> Table {
     let (low, high) = match dice.weighted(&[40, 30, 22, 6, 2]) {
         0 => (1, 12),
         1 => (5, 40),

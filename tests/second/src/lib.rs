@@ -63,7 +63,7 @@ pub fn work_out(table: &Table) -> Answer {
         "{rounds} rounds for {} procedures",
         table.roots.len()
     );
-    let wide = calls::some_procedure_reaches_itself(table);
+    let wide = calls::main_reaches_a_self_caller(table);
     let pairs = &solved[0].m;
     Answer {
         matrix: pairs.words(),

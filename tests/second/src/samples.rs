@@ -106,6 +106,29 @@ pub fn small(number: usize) -> Table {
     }
 }
 
+/// Main calls p1 and then heats (1). p1 starts the wire test (0) as a side branch and calls p2, which loads (2) and calls
+/// itself: it never comes back, so no run heats.
+pub fn self_call_two_below() -> Table {
+    recipe(&[seq(call(1), step(1)), test_and_load(), load_for_ever()])
+}
+
+/// The same p1 and p2 left on the sheet of a main that starts the wire test by itself, and then heats: nobody calls p1.
+pub fn unused_caller_of_self_call() -> Table {
+    recipe(&[
+        seq(spawned(step(0)), step(1)),
+        test_and_load(),
+        load_for_ever(),
+    ])
+}
+
+fn test_and_load() -> Statement {
+    seq(spawned(step(0)), call(2))
+}
+
+fn load_for_ever() -> Statement {
+    seq(step(2), call(2))
+}
+
 /// Figure 1, first program; f is procedure 1.
 pub fn figure_first() -> Table {
     recipe(&[
@@ -142,9 +165,14 @@ pub fn figure_third(n: usize) -> Table {
 /// something to cross: M of the last procedure in round 2n + 1, of procedure 0
 /// in round 3n. For n = 1 this is small recipe 10.
 pub fn ring(n: usize) -> Table {
-    let mut bodies: Vec<Statement> = (1..n).map(call).collect();
-    bodies.push(seq(seq(call(0), step(0)), spawned(call(0))));
-    recipe(&bodies)
+    recipe(&ring_from(0, n))
+}
+
+/// The bodies of such a ring from procedure `first` up to, but without, procedure `end`.
+fn ring_from(first: usize, end: usize) -> Vec<Statement> {
+    let mut bodies: Vec<Statement> = (first + 1..end).map(call).collect();
+    bodies.push(seq(seq(call(first), step(0)), spawned(call(first))));
+    bodies
 }
 
 /// A body of `rows` rows, one inside the other: `wrap` round a step of label 0.
@@ -165,12 +193,23 @@ pub fn all_together(n: usize) -> Statement {
     looped(body)
 }
 
+/// The recipe with the longest listing: main has every pair by itself and calls nobody, so the verdict is `exact`, the longer
+/// word; the rounds have three digits by a ring of all the other procedures, which main never reaches.
+pub fn longest_listing() -> Table {
+    let last = step(crate::LABELS - 1);
+    let steps = (0..crate::LABELS - 1)
+        .rev()
+        .fold(last, |rest, l| seq(step(l), rest));
+    let mut bodies = vec![looped(spawned(steps))];
+    bodies.extend(ring_from(1, crate::PROCEDURES));
+    recipe(&bodies)
+}
+
 /// The ring of 64 procedures with bodies that hold 1,024 rows in all: 3 × 64
 /// rounds, every label in use.
 pub fn large_ring() -> Table {
     let n = crate::PROCEDURES;
-    let mut bodies: Vec<Statement> = (1..n).map(call).collect();
-    bodies.push(seq(seq(call(0), step(0)), spawned(call(0))));
+    let mut bodies = ring_from(0, n);
     // 63 + 6 rows so far. A step with its seq is 2 rows: 477 of them make 1,023,
     // and a finish round one of the steps makes 1,024. A step before the call
     // adds its label to L and delays nothing.

@@ -19,7 +19,8 @@ fn table(rows: &[Row], roots: &[u16]) -> Table {
     }
 }
 
-/// An admitted table with every kind: main is row 3, async{0}; 1, and the other procedures are rows 4 and 7.
+/// An admitted table with every kind: main is row 3, async{0}; 1, and the other procedures are rows 4 and 7. The one of row 4
+/// calls itself, and main does not reach it.
 const BASE: [Row; 8] = [
     (1, 0, 0),
     (4, 0, 0),
@@ -59,10 +60,11 @@ fn which_versions_are_at_hand() {
 
 #[test]
 fn admitted_at_the_edge() {
-    let cases: [(&str, Table, &[(usize, usize)], usize, &str); 7] = [
-        ("base", table(&BASE, &ROOTS), &[(0, 1)], 1, "wide"),
-        ("label 63", with(0, (1, 63, 0)), &[(1, 63)], 1, "wide"),
-        ("child just below", with(3, (2, 2, 1)), &[], 1, "wide"),
+    let cases: [(&str, Table, &[(usize, usize)], usize, &str); 8] = [
+        ("base", table(&BASE, &ROOTS), &[(0, 1)], 1, "exact"),
+        ("label 63", with(0, (1, 63, 0)), &[(1, 63)], 1, "exact"),
+        ("child just below", with(3, (2, 2, 1)), &[], 1, "exact"),
+        ("call in main", with(2, (6, 1, 0)), &[], 1, "wide"),
         ("last procedure", with(4, (6, 2, 0)), &[(0, 1)], 1, "exact"),
         ("call of main", with(4, (6, 0, 0)), &[(0, 1)], 2, "exact"),
         ("64 procedures", skips(64), &[], 0, "exact"),

@@ -64,7 +64,13 @@ fn the_small_recipes() {
     holds(&small(9), &[], 2, "exact");
     holds(&small(10), &[(0, 0)], 3, "wide");
     holds(&small(11), &[(0, 0)], 1, "wide");
-    holds(&small(12), &[], 0, "wide");
+    holds(&small(12), &[], 0, "exact");
+}
+
+#[test]
+fn self_calls_of_sub_recipes() {
+    holds(&self_call_two_below(), &[(0, 1), (0, 2)], 3, "wide");
+    holds(&unused_caller_of_self_call(), &[(0, 1)], 2, "exact");
 }
 
 #[test]
@@ -220,12 +226,16 @@ fn all_the_pairs() {
         work_out(&recipe(&[all_together(LABELS)])).listing.len(),
         11_856
     );
-    // The longest listing: every pair after 64 rounds by the line of calls.
+    // Every pair after 64 rounds by the line of calls.
     let mut line: Vec<Statement> = (1..PROCEDURES).map(call).collect();
     line.push(all_together(LABELS));
     let table = recipe(&line);
     holds(&table, &every, PROCEDURES, "exact");
     assert_eq!(work_out(&table).listing.len(), LISTING_BYTES - 1);
+    // The longest listing: with one byte less it is refused with 14, and what is lent stays as it was.
+    let longest = longest_listing();
+    assert_eq!(work_out(&longest).listing.len(), LISTING_BYTES);
+    holds(&longest, &every, 3 * (PROCEDURES - 1), "exact");
 }
 
 #[test]
@@ -238,13 +248,89 @@ fn pairs_of_a_procedure_that_main_never_reaches_stay_out() {
 }
 
 #[test]
-fn the_verdict_speaks_of_every_procedure() {
-    // Called by nobody, but in a ring: wide. Called twice without a ring: exact.
-    holds(&recipe(&[skip(), call(2), call(1)]), &[], 0, "wide");
+fn the_verdict_speaks_of_main_and_whom_it_reaches() {
+    // Main calls itself, or comes back to itself by another, which is called or left running.
+    holds(&recipe(&[call(0)]), &[], 0, "wide");
+    holds(&recipe(&[call(1), call(0)]), &[], 0, "wide");
+    holds(&recipe(&[call(1), spawned(call(0))]), &[], 0, "wide");
+    // A self-call one and two calls below main, and a ring below it.
+    holds(&recipe(&[call(1), call(1)]), &[], 0, "wide");
+    holds(&recipe(&[call(1), call(2), call(2)]), &[], 0, "wide");
+    holds(&recipe(&[call(1), call(2), call(1)]), &[], 0, "wide");
+    // The same through a procedure with a lower number, and by the last procedure of all.
+    holds(&recipe(&[call(2), call(1), call(1)]), &[], 0, "wide");
+    let mut line: Vec<Statement> = (1..PROCEDURES).map(call).collect();
+    line.push(call(PROCEDURES - 1));
+    holds(&recipe(&line), &[], 0, "wide");
+    // A call counts wherever it stands.
+    let places: [fn(Statement) -> Statement; 5] = [
+        looped,
+        spawned,
+        waited,
+        |s| seq(s, skip()),
+        |s| seq(skip(), s),
+    ];
+    for place in places {
+        let table = recipe(&[place(call(1)), place(call(1))]);
+        holds(&table, &[], 0, "wide");
+    }
+
+    // Rings and self-calls that main never reaches, by whomever they are called.
+    holds(&recipe(&[skip(), call(2), call(1)]), &[], 0, "exact");
+    holds(&recipe(&[skip(), call(2), call(2)]), &[], 0, "exact");
     holds(
-        &recipe(&[seq(call(1), call(2)), call(2), step(7)]),
+        &recipe(&[call(3), call(1), call(1), step(7)]),
         &[],
         2,
         "exact",
     );
+    let mut line: Vec<Statement> = (1..PROCEDURES).map(|p| call(p + 1)).collect();
+    line[PROCEDURES - 2] = skip();
+    line.push(call(PROCEDURES - 1));
+    holds(&recipe(&line), &[], 0, "exact");
+    // Procedures that main never reaches and that call main, or one that main reaches.
+    holds(&recipe(&[skip(), call(0)]), &[], 0, "exact");
+    holds(&recipe(&[call(1), skip(), call(1)]), &[], 0, "exact");
+    holds(
+        &recipe(&[call(1), skip(), seq(call(0), call(2))]),
+        &[],
+        0,
+        "exact",
+    );
+    // Called twice without a ring.
+    let twice = recipe(&[seq(call(1), call(2)), call(2), step(7)]);
+    holds(&twice, &[], 2, "exact");
+
+    // Whoever else calls a self-caller that main reaches.
+    holds(&recipe(&[call(1), call(1), call(1)]), &[], 0, "wide");
+    holds(
+        &recipe(&[call(2), call(2), call(2), call(3)]),
+        &[],
+        0,
+        "wide",
+    );
+}
+
+/// The verdict on each way in which three procedures can call each other, held to the walks of up to three calls.
+#[test]
+fn every_call_graph_of_three_procedures() {
+    let mut exact = 0;
+    for graph in 0..1 << 9 {
+        let calls = |p: usize, q: usize| graph >> (3 * p + q) & 1 == 1;
+        let in_one = |p, q| calls(p, q);
+        let in_two = |p, q| (0..3).any(|via| calls(p, via) && in_one(via, q));
+        let in_three = |p, q| (0..3).any(|via| calls(p, via) && in_two(via, q));
+        let reaches = |p, q| in_one(p, q) || in_two(p, q) || in_three(p, q);
+        let due = (0..3).any(|p| (p == 0 || reaches(0, p)) && reaches(p, p));
+        let body = |p| {
+            let called = (0..3).filter(|&q| calls(p, q)).map(call);
+            called.reduce(seq).unwrap_or(skip())
+        };
+        let verdict = if due { "wide" } else { "exact" };
+        let name = format!("call graph {graph:09b}");
+        common::holds(&name, &recipe(&[0, 1, 2].map(body)), &[], 0, verdict);
+        exact += usize::from(!due);
+    }
+    // Main calls nobody, reaches one other that calls nobody, or reaches both without a ring.
+    assert_eq!(exact, 64 + 16 + 5);
 }

@@ -4,6 +4,7 @@
 mod common;
 
 use common::{note_if_no_library, report_program, run, shown, versions};
+use second::calls::has_an_unreached_self_caller;
 use second::dice::Dice;
 use second::table::{judge, writable};
 use second::{compare, gen, printed, sheet, Table, LABELS, PROCEDURES, ROWS};
@@ -15,6 +16,8 @@ const PROGRAM_SHEETS: u64 = 600;
 const CASES: u64 = 2_000;
 /// Tables that are written into every room.
 const WRITTEN: u64 = 400;
+/// Tables that get procedures which main never reaches.
+const ENLARGED: u64 = 1_000;
 
 #[test]
 fn the_generator_s_recipes_are_admitted_and_of_many_shapes() {
@@ -22,6 +25,8 @@ fn the_generator_s_recipes_are_admitted_and_of_many_shapes() {
     let mut many_rounds = 0;
     let mut large = 0;
     let mut with_pairs = 0;
+    let mut unreached = 0;
+    let mut unreached_with_pairs = 0;
     for seed in 0..3000 {
         let table = gen::recipe(&mut Dice::new(seed));
         assert_eq!(judge(&table, LABELS), Ok(()), "seed {seed}");
@@ -36,13 +41,48 @@ fn the_generator_s_recipes_are_admitted_and_of_many_shapes() {
             let answer = second::work_out(&table);
             wide += usize::from(answer.wide);
             many_rounds += usize::from(answer.rounds > 5);
-            with_pairs += usize::from(answer.matrix.iter().any(|&w| w != 0));
+            let pairs = answer.matrix.iter().any(|&w| w != 0);
+            with_pairs += usize::from(pairs);
+            // A self-caller that main does not reach, and the verdict is exact all the same.
+            let beside = !answer.wide && has_an_unreached_self_caller(&table);
+            unreached += usize::from(beside);
+            unreached_with_pairs += usize::from(beside && pairs);
         }
     }
     assert!(wide > 300, "wide {wide}");
     assert!(many_rounds > 100, "many rounds {many_rounds}");
     assert!(large > 30, "large {large}");
     assert!(with_pairs > 1000, "with pairs {with_pairs}");
+    assert!(unreached > 400, "unreached self-callers {unreached}");
+    assert!(
+        unreached_with_pairs > 80,
+        "unreached self-callers beside pairs {unreached_with_pairs}"
+    );
+}
+
+#[test]
+fn procedures_that_main_never_reaches_change_neither_pairs_nor_verdict() {
+    note_if_no_library("the comparison with procedures that main never reaches");
+    let versions = versions();
+    for i in 0..ENLARGED {
+        let dice = &mut Dice::new(compare::seed_of(15, i));
+        let (rows, procedures) = (dice.between(4, 60), dice.between(1, 4));
+        let table = gen::of_size(dice, rows, procedures);
+        let before = second::work_out(&table);
+        let more = gen::with_unreached(dice, &table);
+        let answer = second::work_out(&more);
+        assert!(more.roots.len() > table.roots.len());
+        assert_eq!(
+            (answer.matrix, answer.wide),
+            (before.matrix, before.wide),
+            "table {i}: {table:?}, {more:?}"
+        );
+        let room = answer.listing.len();
+        for (name, panel) in &versions {
+            compare::listing(panel.as_ref(), dice, &more, Some(&answer), LABELS, room)
+                .unwrap_or_else(|what| panic!("{name}, table {i}: {what}\n{more:?}"));
+        }
+    }
 }
 
 #[test]

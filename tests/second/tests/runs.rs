@@ -5,6 +5,7 @@
 //! Runs of loops and of self-calls have no end, so states above a size are
 //! left out and the search stops after so many states.
 
+use second::calls::has_an_unreached_self_caller;
 use second::dice::Dice;
 use second::samples;
 use second::table::Table;
@@ -178,6 +179,8 @@ fn the_documents_recipes_run() {
         samples::small(7),
         samples::small(8),
         samples::small(9),
+        samples::small(12),
+        samples::unused_caller_of_self_call(),
     ];
     for table in exact {
         let (marked, wide) = marked(&table);
@@ -193,6 +196,10 @@ fn the_documents_recipes_run() {
         assert_eq!(marked(&table).0.len(), 1);
         assert!(met(&table, 5000, 40).0.is_empty(), "{table:?}");
     }
+    // The wire test beside loading is met; heating, which nobody comes to, is marked beside the wire test.
+    let below = samples::self_call_two_below();
+    assert_eq!(marked(&below).0, BTreeSet::from([(0, 1), (0, 2)]));
+    assert_eq!(met(&below, 5000, 40), (BTreeSet::from([(0, 2)]), true));
     // Two turns of the loop beside each other meet every pair, although the chains never end.
     let third = samples::figure_third(2);
     assert_eq!(met(&third, 20_000, 16).0, marked(&third).0);
@@ -202,11 +209,16 @@ fn the_documents_recipes_run() {
 fn generated_recipes_run() {
     let mut exact = 0;
     let mut cut = 0;
-    for seed in 0..1500 {
+    let mut unreached = 0;
+    let mut unreached_with_pairs = 0;
+    for seed in 0..2000 {
         let mut dice = Dice::new(seed);
         let rows = dice.between(3, 11);
         let procedures = dice.between(1, 3);
-        let table = gen::of_size(&mut dice, rows, procedures);
+        let mut table = gen::of_size(&mut dice, rows, procedures);
+        if dice.chance(50) {
+            table = gen::with_unreached(&mut dice, &table);
+        }
         let (marked, wide) = marked(&table);
         let (met, whole) = met(&table, 1500, 36);
         assert!(
@@ -217,6 +229,10 @@ fn generated_recipes_run() {
             continue;
         }
         exact += 1;
+        if has_an_unreached_self_caller(&table) {
+            unreached += 1;
+            unreached_with_pairs += usize::from(!marked.is_empty());
+        }
         if met != marked {
             assert!(
                 !whole,
@@ -226,6 +242,14 @@ fn generated_recipes_run() {
         }
     }
     assert!(exact > 600, "only {exact} exact recipes");
+    assert!(
+        unreached > 500,
+        "only {unreached} with an unreached self-caller"
+    );
+    assert!(
+        unreached_with_pairs > 50,
+        "only {unreached_with_pairs} of them with pairs"
+    );
     assert!(
         cut * 50 <= exact,
         "{cut} of {exact} searches were cut off before every pair was met"

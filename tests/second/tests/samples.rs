@@ -5,8 +5,11 @@ mod common;
 use common::{note_if_no_library, on_all, report_program, run, versions, writes};
 use second::dice::Dice;
 use second::panel::Panel;
+use second::samples::{
+    longest_listing, self_call_two_below, small, unused_caller_of_self_call, whole_case,
+};
 use second::table::Row;
-use second::{compare, printed, sheet, PROCEDURES, ROWS, WRITTEN_BYTES};
+use second::{compare, printed, sheet, LISTING_BYTES, PROCEDURES, ROWS, WRITTEN_BYTES};
 use std::fs;
 use std::path::{Path, PathBuf};
 
@@ -21,8 +24,25 @@ fn samples() -> Vec<PathBuf> {
     let sheets: Vec<PathBuf> = paths
         .filter(|path| path.extension().is_some_and(|e| e == "sheet"))
         .collect();
-    assert!(sheets.len() >= 25, "only {} samples", sheets.len());
+    assert!(sheets.len() >= 28, "only {} samples", sheets.len());
     sheets
+}
+
+#[test]
+fn samples_are_the_recipes_of_the_same_name() {
+    let recipes = [
+        ("whole-case", whole_case()),
+        ("12-unused-self-call", small(12)),
+        ("self-call-two-below", self_call_two_below()),
+        ("unused-caller-of-self-call", unused_caller_of_self_call()),
+        ("longest-listing", longest_listing()),
+    ];
+    for (name, table) in recipes {
+        let sheet = fs::read(folder().join(name).with_extension("sheet")).unwrap();
+        assert!(sheet == sheet::spell(&table), "{name}");
+    }
+    let longest = fs::metadata(folder().join("longest-listing.listing")).unwrap();
+    assert_eq!(longest.len(), LISTING_BYTES as u64);
 }
 
 #[test]
