@@ -72,8 +72,8 @@ extern "C" {
  * The version, 10,000 times the major number, 100 times the minor, and the
  * patch; and the same as text.
  */
-#define BUSHKALOTE_VERSION 200
-#define BUSHKALOTE_VERSION_TEXT "0.2.0"
+#define BUSHKALOTE_VERSION 300
+#define BUSHKALOTE_VERSION_TEXT "0.3.0"
 
 /*
  * The numbers of replies, as in the table above. 14 has an earlier name too,
@@ -122,8 +122,9 @@ typedef struct bushkalote_row {
  * Refuses with 1 to 7. On success the value is the number of rounds, and bit j
  * of matrix[i] is 1 exactly when labels i and j are a pair, for the first 64
  * words; words beyond are untouched. No pair that a run shows is missing; where
- * a procedure can reach itself by calls ("wide" on the listing), there may be
- * pairs that no run shows. The recipe is never written.
+ * main, or a procedure that main can reach by calls, can reach itself by calls
+ * ("wide" on the listing), there may be pairs that no run shows. The recipe is
+ * never written.
  */
 uint64_t bushkalote_analyse(
     const uint8_t *kinds, size_t kinds_len,

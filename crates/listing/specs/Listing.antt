@@ -8,7 +8,7 @@ use Rattle.text.specs.Numbers.{spelled}
 use Rattle.text.specs.Lines.{line}
 use Rattle.listing.specs.Pairs.{pairs}
 
--- The verdict as it is listed: wide where some procedure can reach itself by calls, else exact.
+-- The verdict as it is listed.
 abbrev pub verdictText : Bool → List ℕ
 verdictText wide = cond wide (ascii "wide") (ascii "exact")
 
