@@ -2,9 +2,9 @@
  * One reply of each kind as the number that it is, the macros of panel.h aside,
  * on recipes of which nothing can change places unseen: rows and procedures,
  * xs and ys, a record's x and y, a refusal's number and its place. And each
- * kind by its word, each ceiling of panel.h and one more, each name that it has
- * for a number, and its version. Ends with status 0 if all is as it should be.
- * Built and run by tests/panel/run.
+ * kind by its word, both verdicts, each ceiling of panel.h and one more, each
+ * name that it has for a number, and its version. Ends with status 0 if all is
+ * as it should be. Built and run by tests/panel/run.
  */
 #include <stdio.h>
 #include <string.h>
@@ -27,8 +27,8 @@ _Static_assert(BUSHKALOTE_NO_ROOM == 13, "no room");
 _Static_assert(BUSHKALOTE_SHORT_BYTES == 14, "too few bytes");
 _Static_assert(BUSHKALOTE_LONG_LISTING == 14, "a long listing");
 _Static_assert(BUSHKALOTE_LONG_NUMBER == 15, "a long number");
-#if BUSHKALOTE_VERSION < 200
-#error "panel.h is older than the entries that write"
+#if BUSHKALOTE_VERSION < 300
+#error "panel.h is older than the verdict by what main reaches"
 #endif
 
 static int differences = 0;
@@ -137,6 +137,32 @@ static void told_apart(void)
            bushkalote_list_pairs(kinds, 4, ys, 4, xs, 4, root, 1, matrix, 64, bytes, sizeof bytes), length - 4);
     expect("list records", bushkalote_list_rows(rows, 4, root, 1, matrix, 64, bytes, sizeof bytes), length);
     expect_bytes("the records' text", bytes, one_pair, length);
+}
+
+/* Procedure 1 calls itself: nothing to a main that is skip, and wide where main calls it. */
+static void verdicts(void)
+{
+    static const char exact[] = "pairs\t0\trounds\t0\texact\n#", wide[] = "pairs\t0\trounds\t0\twide\n#";
+    uint8_t k[2] = {0, 6};
+    uint16_t x[2] = {0, 1}, y[2] = {0, 0}, p[2] = {0, 1};
+    bushkalote_row r[2] = {{0, 0, 0}, {6, 1, 0}};
+
+    memset(bytes, '#', sizeof bytes);
+    expect("a self-call that is not reached",
+           bushkalote_list_pairs(k, 2, x, 2, y, 2, p, 2, matrix, 64, bytes, sizeof bytes), sizeof exact - 2);
+    expect_bytes("its word", bytes, exact, sizeof exact - 1);
+    memset(bytes, '#', sizeof bytes);
+    expect("the same of records", bushkalote_list_rows(r, 2, p, 2, matrix, 64, bytes, sizeof bytes), sizeof exact - 2);
+    expect_bytes("their word", bytes, exact, sizeof exact - 1);
+    k[0] = r[0].kind = 6;
+    x[0] = r[0].x = 1;
+    memset(bytes, '#', sizeof bytes);
+    expect("a self-call that is reached",
+           bushkalote_list_pairs(k, 2, x, 2, y, 2, p, 2, matrix, 64, bytes, sizeof bytes), sizeof wide - 2);
+    expect_bytes("its other word", bytes, wide, sizeof wide - 1);
+    memset(bytes, '#', sizeof bytes);
+    expect("the same of these records", bushkalote_list_rows(r, 2, p, 2, matrix, 64, bytes, sizeof bytes), sizeof wide - 2);
+    expect_bytes("their other word", bytes, wide, sizeof wide - 1);
 }
 
 /* True if the text is as it was filled. */
@@ -248,8 +274,44 @@ static void ceilings(void)
     expect("65,537 bytes", bushkalote_read_rows(lines, 65537, loops, 1024, roots, 64), 0xb00000000);
 }
 
+/*
+ * The longest listing: main is loop { async { 0; 1; ... 63 } }, and the other 63 procedures, which it does not call, are a
+ * ring that takes three rounds each. Four digits of pairs, three of rounds, and the longer word.
+ */
+static void longest_listing(void)
+{
+    static const char first[] = "pairs\t2080\trounds\t189\texact\n0\t0\n", last[] = "63\t63\n";
+    static bushkalote_row r[197];
+    static uint16_t roots[64];
+    uint16_t n = 0;
+
+    for (; n < 64; n++)
+        r[n] = (bushkalote_row){1, n, 0};
+    for (; n < 127; n++)
+        r[n] = (bushkalote_row){2, (uint16_t)(126 - n), (uint16_t)(n - 1)};
+    r[n++] = (bushkalote_row){4, 126, 0};
+    r[n++] = (bushkalote_row){3, 127, 0};
+    roots[0] = 128;
+    for (uint16_t f = 1; f < 63; f++) {
+        roots[f] = n;
+        r[n++] = (bushkalote_row){6, (uint16_t)(f + 1), 0};
+    }
+    r[n++] = (bushkalote_row){6, 1, 0};
+    r[n++] = (bushkalote_row){1, 0, 0};
+    r[n++] = (bushkalote_row){2, 191, 192};
+    r[n++] = (bushkalote_row){6, 1, 0};
+    r[n++] = (bushkalote_row){4, 194, 0};
+    r[n++] = (bushkalote_row){2, 193, 195};
+    roots[63] = 196;
+    expect("the listing's bytes", sizeof bytes, 11858);
+    expect("one byte less for it", bushkalote_list_rows(r, n, roots, 64, matrix, 64, bytes, sizeof bytes - 1), 0xe00000000);
+    expect("the longest listing", bushkalote_list_rows(r, n, roots, 64, matrix, 64, bytes, sizeof bytes), 11858);
+    expect_bytes("its first lines", bytes, first, sizeof first - 1);
+    expect_bytes("its last", bytes + sizeof bytes - (sizeof last - 1), last, sizeof last - 1);
+}
+
 /* The longest sheet that is written: 1,024 times 19 bytes and 64 times 7. */
-static void longest(void)
+static void longest_sheet(void)
 {
     static bushkalote_row waits[1025];
     static uint16_t roots[65];
@@ -284,10 +346,12 @@ int main(void)
 {
     read_and_listed();
     told_apart();
+    verdicts();
     written();
     words();
     ceilings();
-    longest();
+    longest_listing();
+    longest_sheet();
     version();
     if (differences != 0)
         fprintf(stderr, "%d differences\n", differences);
