@@ -284,6 +284,7 @@ fn the_verdict_speaks_of_main_and_whom_it_reaches() {
         2,
         "exact",
     );
+    // Main comes to the even procedures alone, the odd ones to the last, which calls itself.
     let mut line: Vec<Statement> = (1..PROCEDURES).map(|p| call(p + 1)).collect();
     line[PROCEDURES - 2] = skip();
     line.push(call(PROCEDURES - 1));
