@@ -1,8 +1,8 @@
 -- The demands, of every table that is admitted at some size: the reported round is the first that repeats, so its sets are the least
 -- solution, and all that holds of least solutions holds of the words that are handed back. Assumes nothing.
-use mathlib.Core.Path.{_≡_, refl, sym, ap, _∙_, subst}
+use mathlib.Core.Path.{_≡_, sym, _∙_, subst}
 use mathlib.Core.Logic.{_↔_}
-use mathlib.Core.Bool.{Bool, true, false, cond, true≢false}
+use mathlib.Core.Bool.{true, true≢false}
 use mathlib.Core.List.{List}
 use Prim.Native.Nat.{ℕ, suc, _*_, _≤_, _<_}
 use native.Mathlib.Decide.{decLt}
@@ -25,10 +25,9 @@ use Rattle.recipe.specs.Statements.{programOf}
 use Rattle.recipe.specs.Tables.{Table, procs, rootAt}
 use Rattle.recipe.proofs.Admitted.{root-row}
 use Rattle.recipe.proofs.Readings.{program-length, body-of-root}
-use Rattle.calls.specs.Reached.{wide}
-use Rattle.calls.specs.Verdicts.{verdictAs, verdictOn}
+use Rattle.calls.specs.Verdicts.{verdictOn}
 use Rattle.calls.specs.declared.Verdict.the-variants as verdict
-use Rattle.calls.proofs.ReachedLaws.{exact-no-self-call}
+use Rattle.calls.proofs.VerdictLaws.{exact-admitted, exact-exactly}
 use Rattle.analysis.specs.Meaning.{meaning}
 use Rattle.analysis.specs.Rounds.{after, settled}
 use Rattle.analysis.specs.Replies.{rounds, mainPairs}
@@ -113,16 +112,6 @@ module _ (z : Size) (t : Table) (ok : admitted z t) where
       → MayMeet (programOf t) (body (programOf t) 0) i j
   demand-3-met acyclic m = calculus.met acyclic demand-2-least m
 
-  -- demand 3: the verdict exact brings that premise
-  pub demand-3-exact : verdictOn z t ≡ verdict.Exact → NoSelfCall (programOf t)
-  unfolding verdictOn
-  demand-3-exact e =
-      exact-no-self-call (programOf t) (not-wide (wide (programOf t)) (sym (ap (verdictAs (programOf t)) ok) ∙ e))
-    where
-      not-wide : (b : Bool) → cond b verdict.Wide verdict.Exact ≡ verdict.Exact → b ≡ false
-      not-wide true e = let n : _≡_ {A = ℕ} 0 1 = cc in absurd (omega arith)
-      not-wide false e = refl
-
   -- the lent words that main's pairs are laid over hold main's marks
   pub matrix-marks :
       (m : List ℕ) (i j : ℕ) → i < labelCeiling (z .words) → j < labelCeiling (z .words)
@@ -130,3 +119,11 @@ module _ (z : Size) (t : Table) (ok : admitted z t) where
   matrix-marks m i j =
       marked-laid (z .words) (mainPairs (z .words) (programOf t)) m i j
       (shaped-after (z .words) (programOf t) (rounds (z .words) (programOf t)) 0 .M .size)
+
+-- ---- of a table that has the verdict exact
+
+-- demand 3: it is admitted and has no self-calls from main on, so each marked pair is enabled at two different places in some reached state
+pub demand-3-exact :
+    (z : Size) (t : Table) {i j : ℕ} → verdictOn z t ≡ verdict.Exact → marked (z .words) (mainPairs (z .words) (programOf t)) i j ≡ 1
+    → MayMeet (programOf t) (body (programOf t) 0) i j
+demand-3-exact z t e = let ok = exact-admitted z t e in demand-3-met z t ok (exact-exactly z t ok .0 e)

@@ -31,13 +31,17 @@ use Rattle.recipe.specs.declared.Judged.the-variants.{Admitted, Refused}
 use Rattle.recipe.proofs.Admitted.{sizes-right}
 use Rattle.recipe.proofs.Judging.{sizes-test}
 use Rattle.recipe.proofs.WithMatrix.{admitted-with, whole-matrix}
+use Rattle.calls.specs.Verdicts.{verdictOn}
+use Rattle.calls.specs.declared.Verdict.the-variants as verdict
+use Rattle.calls.proofs.VerdictLaws.{exact-admitted}
+use Rattle.calls.proofs.verdict_on.Reads.{Post as verdict-on-post}
 use Rattle.analysis.specs.Replies.{rounds, mainPairs, analysedAs, matrixAs, analysed, matrixAfter}
 use Rattle.analysis.specs.declared.Analysed.{Analysed}
 use Rattle.analysis.specs.declared.Analysed.the-variants as reply
 use Rattle.analysis.proofs.analyse.Reads.{Post as analyse-post}
 use Rattle.analysis.proofs.Shape.{shaped-after}
 use Rattle.demands.specs.Demanded.{PairSet, Demanded, FirstRepeat}
-use Rattle.demands.proofs.Demands.{demand-2-pairs, demand-3-marked, demand-3-met, matrix-marks}
+use Rattle.demands.proofs.Demands.{demand-2-pairs, demand-3-marked, demand-3-met, demand-3-exact, matrix-marks}
 use Rattle.demands.proofs.RuleRounds.{demand-2-rounds}
 
 -- a reply of rounds is given of an admitted table with a whole matrix only
@@ -168,6 +172,13 @@ module _
           beyond = reported-beyond;
         }
 
+-- demand 3: where the verdict is exact, each marked pair is enabled at two different places in some reached state
+pub reported-exact :
+    (t : Table) → verdictOn ours t ≡ verdict.Exact → (m : List ℕ) → matrixWords (ours .words) ≤ length m
+    → (m' : List ℕ) → m' ≡ matrixAfter ours t m → (i j : ℕ) → PairSet m' i j → MayMeet (programOf t) (body (programOf t) 0) i j
+reported-exact t exact m room m' held i j s =
+    demand-3-exact ours t exact (set-marked t (exact-admitted ours t exact) m room m' held i j s)
+
 -- ---- the analysis of three slices
 
 module _ (κs a r s : _) (met : analyse-post κs a r s) where
@@ -184,3 +195,21 @@ module _ (κs a r s : _) (met : analyse-post κs a r s) where
   -- and leaves in the lent words what the demands ask
   pub analyse-demands : admitted ours t → matrixWords (ours .words) ≤ length lent → Demanded (programOf t) lent (now (s .1 .1 .1 .1 .0))
   analyse-demands ok room = reported-demands t ok lent room (now (s .1 .1 .1 .1 .0)) (met .1)
+
+-- ---- the verdict on the same
+
+module _ (κs a r s : _) (met : verdict-on-post κs a r s) (exact : r ≡ verdict.Exact) where
+  abbrev judged-t : Table
+  judged-t = tableOf (now (a .0)) (now (a .1 .0)) (now (a .1 .1 .0)) (now (a .1 .1 .1 .0))
+
+  -- whatever meets the contract of `verdict_on` and replies exact: each pair of main's is enabled at two different places in some reached state
+  pub verdict-on-exact :
+      {i j : ℕ} → marked (ours .words) (mainPairs (ours .words) (programOf judged-t)) i j ≡ 1
+      → MayMeet (programOf judged-t) (body (programOf judged-t) 0) i j
+  verdict-on-exact = demand-3-exact ours judged-t (sym met ∙ exact)
+
+  -- and so is each pair in the words that an analysis of the same recipe left in a whole matrix
+  pub verdict-on-exact-words :
+      (m : List ℕ) → matrixWords (ours .words) ≤ length m → (m' : List ℕ) → m' ≡ matrixAfter ours judged-t m
+      → (i j : ℕ) → PairSet m' i j → MayMeet (programOf judged-t) (body (programOf judged-t) 0) i j
+  verdict-on-exact-words = reported-exact judged-t (sym met ∙ exact)

@@ -2,7 +2,7 @@
 -- Assumes nothing.
 use mathlib.Core.Path.{_≡_, refl}
 use mathlib.Core.Bool.{true}
-use mathlib.Core.List.{List, map}
+use mathlib.Core.List.{List, [], _∷_, map}
 use Rattle.numbers.specs.General.{every, lowest, sumBelow}
 use Rattle.numbers.specs.Sizes.{ours}
 use Rattle.labels.specs.Words.{bit, changed, alike}
@@ -12,8 +12,11 @@ use Rattle.recipe.specs.Rules.{sizesRight, operandsRight, usesBy, judgedBy, jud
 use Rattle.recipe.specs.Statements.{rowStatement, statementTo, statementAt, programOf}
 use Rattle.recipe.specs.declared.Judged.{Judged}
 use Rattle.recipe.specs.declared.Judged.the-variants.{Admitted}
-use Rattle.analysis.specs.Rounds.{after}
+use Rattle.recipe.specs.Tables.{tableOf}
 use Rattle.calls.specs.Reached.{calling, reached}
+use Rattle.calls.specs.Verdicts.{verdictOn}
+use Rattle.calls.specs.declared.Verdict.the-variants.{Exact}
+use Rattle.analysis.specs.Rounds.{after}
 use Rattle.analysis.specs.Replies.{rounds}
 use Rattle.demands.specs.Starred.{Recipe, saidOf, wordOf, saysTrue, allTrue, starred, starredTables}
 
@@ -30,3 +33,8 @@ starred-programs = refl
 pub starred-admitted : map (judged ours) starredTables ≡ map (λ (r : Recipe). Admitted) starred
 unfolding sizesRight operandsRight usesBy sumBelow lowest judgedBy judged
 starred-admitted = refl
+
+-- recipe 12, whose main does nothing and whose other procedure calls itself: main never reaches that one, so the verdict is exact
+pub recipe-12-exact : verdictOn ours (tableOf (0 ∷ 6 ∷ []) (0 ∷ 1 ∷ []) (0 ∷ 0 ∷ []) (0 ∷ 1 ∷ [])) ≡ Exact
+unfolding sizesRight operandsRight usesBy sumBelow lowest judgedBy judged rowStatement statementTo statementAt every calling reached verdictOn
+recipe-12-exact = refl

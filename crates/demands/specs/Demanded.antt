@@ -1,7 +1,8 @@
--- What demands 2 and 3 ask of the words that were lent for an admitted recipe, and of its rounds on sets as the calculus has them.
+-- What demands 2 and 3 ask of the words that were lent for an admitted recipe, of its rounds on sets as the calculus has them, and of the word exact.
 use mathlib.Core.Path.{_≡_}
 use mathlib.Core.Logic.{_↔_}
-use mathlib.Core.List.{List}
+use mathlib.Core.Bool.{false}
+use mathlib.Core.List.{List, _++_}
 use Prim.Native.Nat.{ℕ, zero, suc, _≤_, _<_}
 use lib.ListN.{length, getD}
 use Rattle.numbers.specs.Sizes.{ours, labelCeiling, matrixWords}
@@ -11,6 +12,7 @@ use Rattle.calculus.specs.Steps.{Steps}
 use Rattle.calculus.specs.Enabled.{MayMeet}
 use Rattle.calculus.specs.Rules.{Summary, nothing, summaryOf, Inside, Least}
 use Rattle.calculus.specs.Calls.{NoSelfCall}
+use Rattle.listing.specs.Listing.{opening}
 
 -- Bit j of word i is set, and i and j are labels.
 abbrev pub PairSet : List ℕ → ℕ → ℕ → Type 0
@@ -25,6 +27,19 @@ pub record Demanded (p : Program) (m m' : List ℕ) : Type 1 where
   pub met : NoSelfCall p → (i j : ℕ) → PairSet m' i j → MayMeet p (body p 0) i j
   pub size : length m' ≡ length m
   pub beyond : (i : ℕ) → matrixWords (ours .words) ≤ i → getD m' i 0 ≡ getD m i 0
+
+-- The bytes begin with an opening line that says exact.
+pub record SaysExact (b : List ℕ) : Type 0 where
+  pub count : ℕ
+  pub rounds : ℕ
+  pub rest : List ℕ
+  pub bytes : b ≡ opening count rounds false ++ rest
+
+-- The bytes b' that were listed with the words m' say exact exactly where no procedure that main can reach, main included, can reach itself; and where they
+-- say it, any two labels that the words pair are enabled at two different places in some reached state.
+pub record ExactMeans (p : Program) (m' b' : List ℕ) : Type 0 where
+  pub exactly : SaysExact b' ↔ NoSelfCall p
+  pub met : SaysExact b' → (i j : ℕ) → PairSet m' i j → MayMeet p (body p 0) i j
 
 -- The sets of procedure f after k rounds: none after none, and after one more those that the rules give its body from the round before.
 unfoldable pub ruleRounds : Program → ℕ → ℕ → Summary

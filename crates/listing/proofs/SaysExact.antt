@@ -96,9 +96,10 @@ module _ (z : Size) (p : Program) (b : List ℕ) where
 
   -- It does begin with an opening line, its own.
   pub program-opens :
-      laid (listingOf z p) b ≡ opening (pairsAtOrAbove (z .words) (mainPairs (z .words) p)) (rounds (z .words) p) (wide p)
-      ++ (lines (pairs (z .words) (mainPairs (z .words) p)) ++ drop (length (listingOf z p)) b)
+      (rest : List ℕ)
+      × (laid (listingOf z p) b ≡ opening (pairsAtOrAbove (z .words) (mainPairs (z .words) p)) (rounds (z .words) p) (wide p) ++ rest)
   unfolding listingOf listing
   program-opens =
-      append-assoc (opening (pairsAtOrAbove (z .words) (mainPairs (z .words) p)) (rounds (z .words) p) (wide p))
-      (lines (pairs (z .words) (mainPairs (z .words) p))) (drop (length (listingOf z p)) b)
+      let m = mainPairs (z .words) p in
+      let behind = drop (length (listingOf z p)) b in
+      (lines (pairs (z .words) m) ++ behind, append-assoc (opening (pairsAtOrAbove (z .words) m) (rounds (z .words) p) (wide p)) (lines (pairs (z .words) m)) behind)
