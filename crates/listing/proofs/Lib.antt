@@ -8,3 +8,4 @@ pub mod Sizes
 pub mod AscendingPairs
 pub mod Unique
 mod Examples
+pub mod Longest

@@ -54,22 +54,22 @@ module _ (z : Size) (t : Table) (ok : admitted z t) where
   abbrev w : ℕ
   w = z .words
 
-  admitted-still : (m : List ℕ) → matrixWords w ≤ length m → judgedWith z t (length m) ≡ Admitted
-  admitted-still m h = sym (whole-matrix z t (length m) (sizes-test (sizes-right z t ok)) h) ∙ ok
+  pub admitted-still : (words : ℕ) → matrixWords w ≤ words → judgedWith z t words ≡ Admitted
+  admitted-still words h = sym (whole-matrix z t words (sizes-test (sizes-right z t ok)) h) ∙ ok
 
   pub rounds-given : (m : List ℕ) → matrixWords w ≤ length m → {k : ℕ} → analysis.Rounds k ≡ analysed z t (length m) → k ≡ rounds w p
-  rounds-given m h e = let given = admitted-reply z t m (admitted-still m h) refl refl in cc (given .0)
+  rounds-given m h e = let given = admitted-reply z t m (admitted-still (length m) h) refl refl in cc (given .0)
 
   pub never-refused : (m : List ℕ) → matrixWords w ≤ length m → {r : Refusal} → analysis.Refused r ≡ analysed z t (length m) → ⊥
   never-refused m h e =
-      let given = admitted-reply z t m (admitted-still m h) refl refl in
+      let given = admitted-reply z t m (admitted-still (length m) h) refl refl in
       let n : _≡_ {A = ℕ} 0 1 = cc (given .0) in
       omega arith
 
   -- Main's pairs are a whole matrix, so that nothing of a whole matrix lies beyond them.
   pub pairs-given : (m : List ℕ) → length m ≡ matrixWords w → matrixAfter z t m ≡ mainPairs w p
   pairs-given m e =
-      sym (admitted-reply z t m (admitted-still m (le-of-eq (sym e))) refl refl .1)
+      sym (admitted-reply z t m (admitted-still (length m) (le-of-eq (sym e))) refl refl .1)
       ∙ ap (λ (x : List ℕ). mainPairs w p ++ x) (drop-of-length-le m (le-of-eq (e ∙ sym (shaped-after w p (rounds w p) 0 .M .size))))
       ∙ append-nil (mainPairs w p)
 

@@ -5,7 +5,7 @@ use mathlib.Core.Bool.{true}
 use mathlib.Core.List.{List, [], _∷_, _++_, List·Memᴰ, List·Memᴰ·append-cases, List·Memᴰ·eq-of-singleton}
 use mathlib.Core.Logic.{⊎-elim}
 use Prim.Native.Nat.{ℕ, zero, suc, _+_, _-_, _*_, _/_, _%_, _^_, _≤_, _<_}
-use native.Mathlib.Nat.{not-suc-le-zero, le-refl, lt-of-lt-of-le, pow-suc}
+use native.Mathlib.Nat.{not-suc-le-zero, le-refl, lt-of-lt-of-le, pow-suc, one-le-pow}
 use native.Mathlib.Decide.{decLt}
 use native.Mathlib.Omega.{arith}
 use lib.Dec.{lit≤}
@@ -100,6 +100,13 @@ spelled-short (suc most) n h =
     by-size (no l) rest =
         let g : 10 ≤ n = omega arith in
         rw (spelled-last n g) (omega (arith, rest g, length-append (spelled (n / 10)) (digit (n % 10) ∷ [])))
+
+pub spelled-long : (least n : ℕ) → 10 ^ least ≤ n → suc least ≤ length (spelled n)
+spelled-long zero n h = spelled-some n
+spelled-long (suc least) n h =
+    let tenth : 10 ^ least ≤ n / 10 = omega (arith, pow-suc 10 least) in
+    let g : 10 ≤ n = omega (arith, one-le-pow least 10 (lit≤ tt)) in
+    rw (spelled-last n g) (omega (arith, spelled-long least (n / 10) tenth, length-append (spelled (n / 10)) (digit (n % 10) ∷ [])))
 
 -- A number of at most four digits.
 pub spelled-four : (n : ℕ) → n < 10000 → length (spelled n) ≤ 4
