@@ -52,7 +52,7 @@ fn the_generator_s_recipes_are_admitted_and_of_many_shapes() {
     assert!(wide > 300, "wide {wide}");
     assert!(many_rounds > 100, "many rounds {many_rounds}");
     assert!(large > 30, "large {large}");
-    assert!(with_pairs > 1000, "with pairs {with_pairs}");
+    assert!(with_pairs > 900, "with pairs {with_pairs}");
     assert!(unreached > 400, "unreached self-callers {unreached}");
     assert!(
         unreached_with_pairs > 80,
