@@ -7,14 +7,11 @@ use lib.ListN.{length}
 use Rattle.numbers.specs.General.{laid}
 use Rattle.numbers.specs.Sizes.{Size, matrixWords}
 use Rattle.numbers.specs.declared.Refusal.the-variants.{ShortBytes}
-use Rattle.recipe.specs.Rules.{judged, judgedWith, admitted}
+use Rattle.recipe.specs.Rules.{judged, admitted}
 use Rattle.recipe.specs.Statements.{programOf}
 use Rattle.recipe.specs.Tables.{Table}
 use Rattle.recipe.specs.declared.Judged.{Judged}
-use Rattle.recipe.specs.declared.Judged.the-variants.{Admitted}
-use Rattle.recipe.proofs.Admitted.{sizes-right}
-use Rattle.recipe.proofs.Judging.{sizes-test}
-use Rattle.recipe.proofs.WithMatrix.{whole-matrix}
+use Rattle.recipe.proofs.WithMatrix.{admitted-still}
 use Rattle.listing.specs.Replies.{listingOf, listedAs, heldAfter, listed, bytesListed}
 use Rattle.listing.specs.declared.Listed.{Listed}
 use Rattle.listing.specs.declared.Listed.the-variants as reply
@@ -40,15 +37,12 @@ pub judged-reply :
 judged-reply z t e a = answered-as (ap (answerBy z t) (sym e)) a
 
 module _ (z : Size) (t : Table) (words : ℕ) (ok : admitted z t) (whole : matrixWords (z .words) ≤ words) where
-  admitted-still : judgedWith z t words ≡ Admitted
-  admitted-still = sym (whole-matrix z t words (sizes-test (sizes-right z t ok)) whole) ∙ ok
-
   pub listing-replied :
       (old : List ℕ) {r : Listed} {new : List ℕ} → r ≡ listed z t words (length old) → new ≡ bytesListed z t words old
       → Answered (listingOf z (programOf t)) old r new
   unfolding listed bytesListed
   listing-replied old e f =
       record {
-        said = e ∙ ap (listedAs z (programOf t) (length old)) admitted-still;
+        said = e ∙ ap (listedAs z (programOf t) (length old)) (admitted-still z t words ok whole);
         held = f ∙ ap (heldAfter (laid (listingOf z (programOf t)) old) old) (sym e);
       }

@@ -22,6 +22,7 @@ use Rattle.recipe.specs.Rules.{sizesRight, operandsRight, usesBy, judgedBy, jud
 use Rattle.recipe.specs.Statements.{rowStatement, statementTo, statementAt, programOf}
 use Rattle.recipe.specs.Tables.{Table}
 use Rattle.recipe.specs.declared.Row.{Row}
+use Rattle.recipe.proofs.WithMatrix.{admitted-still}
 use Rattle.calls.specs.Reached.{calling, wide}
 use Rattle.calls.proofs.ReachedLaws.{calls-calling, no-self-call-exact}
 use Rattle.analysis.specs.Summaries.{WordSummary}
@@ -33,7 +34,7 @@ use Rattle.listing.specs.Listing.{opening, pairLine, lines, listing, lon
 use Rattle.listing.specs.Replies.{listingOf, listedAs, listed}
 use Rattle.listing.specs.declared.Listed.the-variants as reply
 use Rattle.listing.proofs.LineLaws.{length-opening}
-use Rattle.listing.proofs.ReplyLaws.{too-long, admitted-still}
+use Rattle.listing.proofs.ReplyLaws.{too-long}
 use Rattle.listing.proofs.Sizes.{rounds-few}
 
 -- ---- the recipe
@@ -180,5 +181,5 @@ pub longest-needs-its-room :
     (words room : ℕ) → matrixWords w ≤ words → room < longestListing → listed ours longRecipe words room ≡ reply.Refused ShortBytes
 unfolding listed
 longest-needs-its-room words room whole short =
-    ap (listedAs ours (programOf longRecipe) room) (admitted-still ours longRecipe long-admitted words whole)
+    ap (listedAs ours (programOf longRecipe) room) (admitted-still ours longRecipe words long-admitted whole)
     ∙ sym (too-long (listingOf ours (programOf longRecipe)) room (omega (arith, longest-there-is .1)))

@@ -17,9 +17,7 @@ use Rattle.recipe.specs.Rules.{admitted, judgedWith}
 use Rattle.recipe.specs.Statements.{programOf}
 use Rattle.recipe.specs.Tables.{Table}
 use Rattle.recipe.specs.declared.Judged.the-variants.{Admitted, Refused}
-use Rattle.recipe.proofs.Judging.{sizes-test}
-use Rattle.recipe.proofs.Admitted.{sizes-right}
-use Rattle.recipe.proofs.WithMatrix.{whole-matrix}
+use Rattle.recipe.proofs.WithMatrix.{admitted-still}
 use Rattle.calls.specs.Reached.{wide}
 use Rattle.analysis.specs.Replies.{rounds, mainPairs, analysed, matrixAfter}
 use Rattle.analysis.specs.declared.Analysed.the-variants as analysis
@@ -54,22 +52,19 @@ module _ (z : Size) (t : Table) (ok : admitted z t) where
   abbrev w : ℕ
   w = z .words
 
-  pub admitted-still : (words : ℕ) → matrixWords w ≤ words → judgedWith z t words ≡ Admitted
-  admitted-still words h = sym (whole-matrix z t words (sizes-test (sizes-right z t ok)) h) ∙ ok
-
   pub rounds-given : (m : List ℕ) → matrixWords w ≤ length m → {k : ℕ} → analysis.Rounds k ≡ analysed z t (length m) → k ≡ rounds w p
-  rounds-given m h e = let given = admitted-reply z t m (admitted-still (length m) h) refl refl in cc (given .0)
+  rounds-given m h e = let given = admitted-reply z t m (admitted-still z t (length m) ok h) refl refl in cc (given .0)
 
   pub never-refused : (m : List ℕ) → matrixWords w ≤ length m → {r : Refusal} → analysis.Refused r ≡ analysed z t (length m) → ⊥
   never-refused m h e =
-      let given = admitted-reply z t m (admitted-still (length m) h) refl refl in
+      let given = admitted-reply z t m (admitted-still z t (length m) ok h) refl refl in
       let n : _≡_ {A = ℕ} 0 1 = cc (given .0) in
       omega arith
 
   -- Main's pairs are a whole matrix, so that nothing of a whole matrix lies beyond them.
   pub pairs-given : (m : List ℕ) → length m ≡ matrixWords w → matrixAfter z t m ≡ mainPairs w p
   pairs-given m e =
-      sym (admitted-reply z t m (admitted-still (length m) (le-of-eq (sym e))) refl refl .1)
+      sym (admitted-reply z t m (admitted-still z t (length m) ok (le-of-eq (sym e))) refl refl .1)
       ∙ ap (λ (x : List ℕ). mainPairs w p ++ x) (drop-of-length-le m (le-of-eq (e ∙ sym (shaped-after w p (rounds w p) 0 .M .size))))
       ∙ append-nil (mainPairs w p)
 

@@ -1,4 +1,4 @@
--- Sizes are tried first, then the matrix, then the rest; and what is admitted with a matrix is admitted, and the matrix is whole.
+-- Sizes are tried first, then the matrix, then the rest; so what is admitted with a matrix is what is admitted, and the matrix is whole.
 -- Assumes nothing.
 use mathlib.Core.Bool.{Bool, true, false, not}
 use mathlib.Core.List.{_∷_}
@@ -12,7 +12,8 @@ use Rattle.numbers.specs.declared.Refusal.the-variants.{Sizes, ShortMatrix}
 use Rattle.recipe.specs.Rules.{sizesFit, matrixRule, furtherRules, judgedBy, judged, judgedWith, admitted}
 use Rattle.recipe.specs.Tables.{Table}
 use Rattle.recipe.specs.declared.Judged.the-variants.{Admitted, Refused}
-use Rattle.recipe.proofs.Judging.{whole-broken, whole-kept, sizes-passed}
+use Rattle.recipe.proofs.Admitted.{sizes-right}
+use Rattle.recipe.proofs.Judging.{whole-broken, whole-kept, sizes-passed, sizes-test}
 
 module _ (z : Size) (t : Table) (words : ℕ) where
   abbrev short : Bool
@@ -34,6 +35,10 @@ module _ (z : Size) (t : Table) (words : ℕ) where
 
   pub whole-matrix : sizesFit z t ≡ true → matrixWords (z .words) ≤ words → judged z t ≡ judgedWith z t words
   whole-matrix e h = sym (past-matrix e (le-ltb words (matrixWords (z .words)) h))
+
+  -- what is admitted still is with a whole matrix
+  pub admitted-still : admitted z t → matrixWords (z .words) ≤ words → judgedWith z t words ≡ Admitted
+  admitted-still ok whole = sym (whole-matrix (sizes-test (sizes-right z t ok)) whole) ∙ ok
 
   -- what is admitted with a matrix
   pub admitted-with : judgedWith z t words ≡ Admitted → admitted z t × (matrixWords (z .words) ≤ words)
