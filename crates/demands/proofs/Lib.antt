@@ -3,6 +3,7 @@ pub mod Demands
 pub mod RuleRounds
 pub mod Reported
 pub mod Entries
+pub mod Answered
 pub mod StarredRecipes
 pub mod RoundTrips
 pub mod PanelRoundTrips

@@ -1,4 +1,5 @@
--- The starred recipes come out as document 01 says, computed by the definitions; and each is the program of a table that is admitted.
+-- The starred recipes come out as document 01 says, computed by the definitions; and each is the program of a table that is admitted. So does the verdict on
+-- recipe 12, which has no star.
 -- Assumes nothing.
 use mathlib.Core.Path.{_≡_, refl}
 use mathlib.Core.Bool.{true}

@@ -22,6 +22,7 @@ use Rattle.listing.specs.Replies.{listingOf}
 
 -- ---- a number and the tab behind it
 
+-- Every byte is a digit.
 abbrev Digits : List ℕ → Type 0
 Digits a = (b : ℕ) → List·Memᴰ b a → isDigit b ≡ true
 
@@ -44,6 +45,7 @@ number-ends m n x y e =
 
 -- ---- the opening line
 
+-- The first byte.
 abbrev firstOf : List ℕ → ℕ
 firstOf text = getD text 0 0
 
@@ -53,7 +55,7 @@ verdict-said false false x y e = (refl, ap (drop 6) e)
 verdict-said true false x y e = absurd (omega (arith, ap firstOf e))
 verdict-said false true x y e = absurd (omega (arith, ap firstOf e))
 
--- What follows the count of an opening line, and what follows the rounds.
+-- What follows the rounds of an opening line, and what follows the count.
 abbrev afterRounds : Bool → List ℕ → List ℕ
 afterRounds wide rest = verdictText wide ++ (newline ∷ rest)
 
