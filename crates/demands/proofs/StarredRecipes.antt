@@ -1,5 +1,5 @@
--- The starred recipes come out as document 01 says, computed by the definitions; and each is the program of a table that is admitted. So does the verdict on
--- recipe 12, which has no star.
+-- The starred recipes come out as document 01 says, computed by the definitions; and each is the program of a table that is admitted. Recipe 12, which has no
+-- star, is computed alike.
 -- Assumes nothing.
 use mathlib.Core.Path.{_≡_, refl}
 use mathlib.Core.Bool.{true}
