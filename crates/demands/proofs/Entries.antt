@@ -22,7 +22,7 @@ use Rattle.recipe.specs.Tables.{Table, tableOf}
 use Rattle.recipe.specs.declared.Judged.{Judged}
 use Rattle.recipe.specs.declared.Judged.the-variants.{Admitted, Refused}
 use Rattle.recipe.specs.declared.Row.{Row}
-use Rattle.recipe.proofs.WithMatrix.{admitted-with}
+use Rattle.recipe.proofs.WithMatrix.{admitted-with, admitted-still}
 use Rattle.calls.proofs.ReachedLaws.{exact-no-self-call, no-self-call-exact}
 use Rattle.analysis.specs.Replies.{rounds, mainPairs, analysed}
 use Rattle.analysis.specs.declared.Analysed.{Analysed}
@@ -42,7 +42,7 @@ use Rattle.panel.proofs.Unique as panel
 use Rattle.panel.proofs.bushkalote_analyse.Reads.{Post as c-analyse-post}
 use Rattle.panel.proofs.bushkalote_list_pairs.Reads.{Post as c-list-pairs-post}
 use Rattle.demands.specs.Demanded.{Demanded, SaysExact, ExactMeans}
-use Rattle.demands.proofs.Reported.{still-admitted, reported-reply, reported-demands}
+use Rattle.demands.proofs.Reported.{reported-reply, reported-demands}
 
 -- ---- a listing that fits
 
@@ -57,7 +57,7 @@ module _
     pub listed-reply : listed ours t (length m) (length b) ≡ listing.Length (length (listingOf ours (programOf t)))
     unfolding listed
     listed-reply =
-        ap (listedAs ours (programOf t) (length b)) (still-admitted t ok m room) ∙ sym (fits (listingOf ours (programOf t)) (length b) long)
+        ap (listedAs ours (programOf t) (length b)) (admitted-still ours t (length m) ok room) ∙ sym (fits (listingOf ours (programOf t)) (length b) long)
 
     -- the words are those of the analysis
     pub listed-demands : (m' : List ℕ) → m' ≡ matrixListed ours t m (length b) → Demanded (programOf t) m m'

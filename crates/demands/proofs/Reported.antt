@@ -3,7 +3,7 @@
 -- Assumes nothing.
 use mathlib.Core.Path.{_≡_, refl, sym, ap, _∙_, subst}
 use mathlib.Core.Logic.{_↔_}
-use mathlib.Core.List.{List, _++_}
+use mathlib.Core.List.{List}
 use Prim.Native.Nat.{ℕ, _+_, _-_, _≤_, _<_}
 use native.Mathlib.Decide.{decLt}
 use native.Mathlib.Nat.{le-of-eq}
@@ -28,9 +28,7 @@ use Rattle.recipe.specs.Statements.{programOf}
 use Rattle.recipe.specs.Tables.{Table, tableOf}
 use Rattle.recipe.specs.declared.Judged.{Judged}
 use Rattle.recipe.specs.declared.Judged.the-variants.{Admitted, Refused}
-use Rattle.recipe.proofs.Admitted.{sizes-right}
-use Rattle.recipe.proofs.Judging.{sizes-test}
-use Rattle.recipe.proofs.WithMatrix.{admitted-with, whole-matrix}
+use Rattle.recipe.proofs.WithMatrix.{admitted-with, admitted-still}
 use Rattle.calls.specs.Verdicts.{verdictOn}
 use Rattle.calls.specs.declared.Verdict.the-variants as verdict
 use Rattle.calls.proofs.VerdictLaws.{exact-admitted}
@@ -70,13 +68,10 @@ marked-below w m i j size e = (first (decLt i (labelCeiling w)), second (decLt j
 -- ---- the reply
 
 module _ (t : Table) (ok : admitted ours t) (m : List ℕ) (room : matrixWords (ours .words) ≤ length m) where
-  pub still-admitted : judgedWith ours t (length m) ≡ Admitted
-  still-admitted = sym (whole-matrix ours t (length m) (sizes-test (sizes-right ours t ok)) room) ∙ ok
-
   -- the reply is the recipe's rounds, and no refusal
   pub reported-reply : (r : Analysed) → r ≡ analysed ours t (length m) → r ≡ reply.Rounds (rounds (ours .words) (programOf t))
   unfolding analysed
-  reported-reply r said = said ∙ ap (analysedAs ours (programOf t)) still-admitted
+  reported-reply r said = said ∙ ap (analysedAs ours (programOf t)) (admitted-still ours t (length m) ok room)
 
   -- the reported rounds are the definitions'
   pub reported-rounds : (k : ℕ) → reply.Rounds k ≡ analysed ours t (length m) → k ≡ rounds (ours .words) (programOf t)
@@ -108,7 +103,7 @@ module _
 
     laid-out : m' ≡ laid main m
     unfolding matrixAfter
-    laid-out = held ∙ ap (matrixAs ours p m) (still-admitted t ok m room)
+    laid-out = held ∙ ap (matrixAs ours p m) (admitted-still ours t (length m) ok room)
 
     marks :
         (i j : ℕ) → i < labelCeiling (ours .words) → j < labelCeiling (ours .words) → bit (getD m' i 0) j ≡ marked (ours .words) main i j
