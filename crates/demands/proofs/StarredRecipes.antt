@@ -3,7 +3,7 @@
 -- Assumes nothing.
 use mathlib.Core.Path.{_≡_, refl}
 use mathlib.Core.Bool.{true}
-use mathlib.Core.List.{List, [], _∷_, map}
+use mathlib.Core.List.{[], _∷_, map}
 use Rattle.numbers.specs.General.{every, lowest, sumBelow}
 use Rattle.numbers.specs.Sizes.{ours}
 use Rattle.labels.specs.Words.{bit, changed, alike}
@@ -11,9 +11,8 @@ use Rattle.labels.specs.Sets.{member, single, joined}
 use Rattle.matrix.specs.Matrix.{crossed}
 use Rattle.recipe.specs.Rules.{sizesRight, operandsRight, usesBy, judgedBy, judged}
 use Rattle.recipe.specs.Statements.{rowStatement, statementTo, statementAt, programOf}
-use Rattle.recipe.specs.declared.Judged.{Judged}
-use Rattle.recipe.specs.declared.Judged.the-variants.{Admitted}
 use Rattle.recipe.specs.Tables.{tableOf}
+use Rattle.recipe.specs.declared.Judged.the-variants.{Admitted}
 use Rattle.calls.specs.Reached.{calling, reached}
 use Rattle.calls.specs.Verdicts.{verdictOn}
 use Rattle.calls.specs.declared.Verdict.the-variants.{Exact}
