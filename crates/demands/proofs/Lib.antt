@@ -4,6 +4,7 @@ pub mod RuleRounds
 pub mod Reported
 pub mod Entries
 pub mod Answered
+pub mod LongestListing
 pub mod StarredRecipes
 pub mod RoundTrips
 pub mod PanelRoundTrips

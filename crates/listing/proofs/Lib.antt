@@ -8,4 +8,3 @@ pub mod Sizes
 pub mod AscendingPairs
 pub mod Unique
 mod Examples
-pub mod Longest

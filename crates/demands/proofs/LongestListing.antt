@@ -174,12 +174,12 @@ long-length =
     main-pairs = ap (λ (k : ℕ). after w long k 0 .M) down ∙ all-meet (rounds w long - 1)
 
 -- The longest listing there is: so no less room is enough.
-pub longest-there-is : admitted ours longRecipe × (length (listingOf ours (programOf longRecipe)) ≡ longestListing)
-longest-there-is = (long-admitted, rw long-read long-length)
+pub longest-listing-there-is : admitted ours longRecipe × (length (listingOf ours (programOf longRecipe)) ≡ longestListing)
+longest-listing-there-is = (long-admitted, rw long-read long-length)
 
-pub longest-needs-its-room :
+pub longest-listing-needs-its-room :
     (words room : ℕ) → matrixWords w ≤ words → room < longestListing → listed ours longRecipe words room ≡ reply.Refused ShortBytes
 unfolding listed
-longest-needs-its-room words room whole short =
+longest-listing-needs-its-room words room whole short =
     ap (listedAs ours (programOf longRecipe) room) (admitted-still ours longRecipe words long-admitted whole)
-    ∙ sym (too-long (listingOf ours (programOf longRecipe)) room (omega (arith, longest-there-is .1)))
+    ∙ sym (too-long (listingOf ours (programOf longRecipe)) room (omega (arith, longest-listing-there-is .1)))
