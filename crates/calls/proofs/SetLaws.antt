@@ -9,8 +9,8 @@ use native.Mathlib.Numerals.{add-one}
 use native.Mathlib.Omega.{arith}
 use lib.Bits.{bitAnd, bitOr}
 use lib.Dec.{eqb}
-use borrow.Author.Tests.{ne-eqb}
 use lib.ListN.{length, getD}
+use borrow.Author.Tests.{ne-eqb}
 use Rattle.numbers.proofs.EveryLaws.{every-alike}
 use Rattle.calculus.specs.Syntax.{Stmt, skip, step, seq, loop, async, finish, call, Program, body}
 use Rattle.labels.specs.Words.{bit}
@@ -32,12 +32,9 @@ min-and true false = refl
 min-and false true = refl
 min-and false false = refl
 
--- Both are told by the lower of their numbers.
-none-is-not : (a b : Bool) → eqb (min (oneIf a) (oneIf b)) 0 ≡ not (a && b)
-none-is-not true true = refl
-none-is-not true false = refl
-none-is-not false true = refl
-none-is-not false false = refl
+none-is-not : (b : Bool) → eqb (oneIf b) 0 ≡ not b
+none-is-not true = refl
+none-is-not false = refl
 
 -- one procedure more
 pub closed-more : (n k : ℕ) (sets : List ℕ) → throughAlso n k (closedBelow n k sets) ≡ closedBelow n (k + 1) sets
@@ -101,6 +98,7 @@ module _ (p : Program) (n : ℕ) (sets : List ℕ) (room : n ≤ length sets) wh
       own f l =
           ap (λ (x : ℕ). eqb x 0)
           (bit-and (getD (closed n) 0 0) (getD (closed n) f 0) f
-          ∙ ap₂ min (closed-bit n (le-refl n) 0 (omega arith) f) (closed-bit n (le-refl n) f l f))
-          ∙ none-is-not (reached p n 0 f) (reached p n f f)
+          ∙ ap₂ min (closed-bit n (le-refl n) 0 (omega arith) f) (closed-bit n (le-refl n) f l f)
+          ∙ min-and (reached p n 0 f) (reached p n f f))
+          ∙ none-is-not (reached p n 0 f && reached p n f f)
           ∙ main-too f
