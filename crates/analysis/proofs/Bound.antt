@@ -1,18 +1,16 @@
 -- After 3n rounds of n procedures nothing changes: L at a label depends on L at that label alone, O at a label on O there and on L, M at a pair on M there
 -- and on O and L; so each is a growing family of n yes/no values, whose repeats last from round 0, n and 2n on. Assumes nothing.
-use mathlib.Core.Path.{_≡_, refl, sym, ap, ap₂, _∙_, subst, fun-ext}
+use mathlib.Core.Path.{_≡_, refl, sym, ap, ap₂, _∙_, subst}
 use mathlib.Core.Bool.{true, _&&_, and-eq-true-iff}
 use mathlib.Core.List.{List}
-use Prim.Native.Nat.{ℕ, zero, suc, _+_, _-_, _*_, _≤_, _<_, min, max}
+use Prim.Native.Nat.{ℕ, zero, suc, _+_, _*_, _≤_, _<_, min, max}
 use native.Mathlib.Nat.{le-refl, le-of-eq}
-use native.Mathlib.Numerals.{unary-clauses}
 use native.Mathlib.Decide.{decLt}
 use native.Mathlib.Omega.{arith}
 use lib.ListN.{length, getD, List·getD-eq-default}
 use lib.Seq.{ext-getD}
 use Rattle.numbers.specs.Sizes.{labelCeiling, matrixWords}
 use Rattle.numbers.proofs.EveryLaws.{every-passes, passes-every}
-use Rattle.numbers.proofs.LowestLaws.{lowest-passes}
 use Rattle.labels.specs.Words.{alike}
 use Rattle.labels.specs.Sets.{member, union}
 use Rattle.labels.proofs.SetLaws.{member-lt, member-none, member-union, members-make-the-set}
@@ -22,7 +20,6 @@ use Rattle.matrix.proofs.MatrixLaws.{marked-lt, marked-none, marked-merged, mar
 use Rattle.calculus.specs.Syntax.{Stmt, skip, step, seq, loop, async, finish, call, Program, body}
 use Rattle.analysis.specs.Summaries.{WordSummary, emptyWords, wordsOf}
 use Rattle.analysis.specs.Rounds.{after, sameWords, settled}
-use Rattle.analysis.specs.Replies.{rounds}
 use Rattle.analysis.proofs.Shape.{Sized, Shaped, by-parts, shaped, shaped-after, sized-joined}
 use Rattle.analysis.proofs.Growth.{grown}
 
@@ -277,23 +274,3 @@ module _ (w : ℕ) (p : Program) where
 
   pub final-settled : (k : ℕ) → 3 * length p ≤ k → settled w p k ≡ true
   final-settled k past = repeats-settled k (final k past)
-
-  -- a repeat lasts
-  repeat-lasts :
-      (k : ℕ) → ((f : ℕ) → after w p (suc k) f ≡ after w p k f) → (more f : ℕ) → after w p (suc (k + more)) f ≡ after w p (k + more) f
-  unfolding after
-  repeat-lasts k e zero f = simp unary-clauses (e f)
-  repeat-lasts k e (suc more) f =
-      simp unary-clauses (ap (λ (B : ℕ → WordSummary). wordsOf w B (body p f)) (fun-ext (repeat-lasts k e more)))
-
-  -- so a round after which something changes comes before the reported one
-  pub changes-before : (k f : ℕ) → k < 3 * length p → ¬ (after w p (suc k) f ≡ after w p k f) → k < rounds w p
-  unfolding rounds
-  changes-before k f within changes = either (decLt k (rounds w p))
-    where
-      either : Dec (k < rounds w p) → k < rounds w p
-      either (yes before) = before
-      either (no past) =
-          let found = settled-repeats (rounds w p) (lowest-passes (3 * length p) (settled w p) (omega arith)) in
-          let later : rounds w p + (k - rounds w p) ≡ k = omega arith in
-          absurd (changes (rw later at (repeat-lasts (rounds w p) found (k - rounds w p) f)))

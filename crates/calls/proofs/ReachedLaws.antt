@@ -12,7 +12,6 @@ use lib.ListN.{length, List·getD-eq-default}
 use borrow.Author.Tests.{eqb-true, eq-eqb, not-true, not-false}
 use Rattle.calculus.specs.Syntax.{Stmt, skip, step, seq, loop, async, finish, call, Program, body}
 use Rattle.calculus.specs.Calls.{CallsIn, Calls, Reaches, one, more, SelfCalling, FromMain, NoSelfCall}
-use Rattle.numbers.specs.General.{every}
 use Rattle.numbers.proofs.EveryLaws.{some-fails, every-passes}
 use Rattle.calls.specs.Reached.{calling, reached, reachesItself, fromMain, wide}
 

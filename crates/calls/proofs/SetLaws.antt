@@ -17,7 +17,7 @@ use Rattle.labels.specs.Words.{bit}
 use Rattle.labels.proofs.BitLaws.{bit-lt, bit-of-zero, bit-or, bit-and, bit-times, bit-of-power}
 use Rattle.labels.proofs.ChangedLaws.{length-changed, changed-below}
 use Rattle.numbers.specs.General.{oneIf, every}
-use Rattle.calls.specs.Inner.{callsOf, directCalls, throughAlso, closedBelow, noneInOwn}
+use Rattle.calls.specs.Inner.{callsOf, directCalls, throughAlso, closedBelow, noneInBoth}
 use Rattle.calls.specs.Reached.{calling, reached, wide}
 
 max-or : (a b : Bool) → max (oneIf a) (oneIf b) ≡ oneIf (a || b)
@@ -82,10 +82,10 @@ module _ (p : Program) (n : ℕ) (sets : List ℕ) (room : n ≤ length sets) wh
       ∙ max-or (reached p k f g) (reached p k f k && reached p k k g)
 
   -- The closed sets tell whether a procedure that main reaches reaches itself; main does if it is in its own set.
-  pub sets-wide : n ≡ length p → not (noneInOwn n (closed n)) ≡ wide p
+  pub sets-wide : n ≡ length p → not (noneInBoth n (closed n)) ≡ wide p
   sets-wide size =
       ap not
-      (subst (λ (m : ℕ). noneInOwn n (closed n) ≡ every m (λ f. not ((eqb f 0 || reached p m 0 f) && reached p m f f))) size
+      (subst (λ (m : ℕ). noneInBoth n (closed n) ≡ every m (λ f. not ((eqb f 0 || reached p m 0 f) && reached p m f f))) size
       (every-alike n _ _ own))
     where
       main-too : (f : ℕ) → not (reached p n 0 f && reached p n f f) ≡ not ((eqb f 0 || reached p n 0 f) && reached p n f f)

@@ -33,5 +33,5 @@ closedBelow n zero sets = sets
 closedBelow n (suc k) sets = throughAlso n k (closedBelow n k sets)
 
 -- Whether none of the first n procedures is both in the set of main and in its own.
-abbrev pub noneInOwn : ℕ → List ℕ → Bool
-noneInOwn n sets = every n (λ f. eqb (bit (bitAnd (getD sets 0 0) (getD sets f 0)) f) 0)
+abbrev pub noneInBoth : ℕ → List ℕ → Bool
+noneInBoth n sets = every n (λ f. eqb (bit (bitAnd (getD sets 0 0) (getD sets f 0)) f) 0)

@@ -8,7 +8,7 @@ ghost use Rattle.recipe.specs.Inner.{rowsAlone, OfAdmitted};
 ghost use Rattle.recipe.specs.Rules.{admitted};
 ghost use Rattle.recipe.specs.Statements.{statementAt, programOf};
 ghost use Rattle.recipe.specs.Tables.{tableOf, procs};
-ghost use Rattle.calls.specs.Inner.{callsOf, directCalls, throughAlso, closedBelow, noneInOwn};
+ghost use Rattle.calls.specs.Inner.{callsOf, directCalls, throughAlso, closedBelow, noneInBoth};
 ghost use Rattle.calls.specs.Reached.{wide};
 use numbers::ProcNumber;
 use numbers::RowNumber;
@@ -91,9 +91,9 @@ fn close(reach: &mut [u64], n: usize)
 }
 
 // Whether none of n procedures is both in the set of main and in its own. Main is in its own if it reaches itself, so it is no case apart.
-fn none_in_own(reach: &[u64], n: usize) -> bool
+fn none_in_both(reach: &[u64], n: usize) -> bool
     requires { ⌜ (0 < n) × ((n ≤ length (now reach)) × (n ≤ ours .procs)) ⌝ }
-    ensures { λ r. ⌜ r ≡ noneInOwn n (now (reach .entry)) ⌝ }
+    ensures { λ r. ⌜ r ≡ noneInBoth n (now (reach .entry)) ⌝ }
 {
     let main = reach[0];
     let mut f = n;
@@ -115,5 +115,5 @@ pub(crate) fn reaches_itself(kinds: &[u8], xs: &[u16], ys: &[u16], roots: &[u16]
     let mut reach = [0u64; ProcNumber::CEILING];
     direct_calls(&mut reach, kinds, xs, ys, roots);
     close(&mut reach, roots.len());
-    !none_in_own(&reach, roots.len())
+    !none_in_both(&reach, roots.len())
 }

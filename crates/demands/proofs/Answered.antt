@@ -11,6 +11,9 @@ use lib.Seq.{drop-nil}
 use Rattle.numbers.specs.General.{laid}
 use Rattle.numbers.specs.Sizes.{ours, rowCeiling}
 use Rattle.numbers.specs.declared.Refusal.{Refusal}
+use Rattle.matrix.specs.Matrix.{marked}
+use Rattle.calculus.specs.Syntax.{body}
+use Rattle.calculus.specs.Enabled.{MayMeet}
 use Rattle.recipe.specs.Records.{tableOfRows}
 use Rattle.recipe.specs.Rules.{judged}
 use Rattle.recipe.specs.Statements.{programOf}
@@ -19,6 +22,7 @@ use Rattle.recipe.specs.declared.Judged.the-variants.{Admitted, Refused}
 use Rattle.recipe.specs.declared.Row.{Row}
 use Rattle.table.specs.Reading.{Reading, table, refused}
 use Rattle.sheet.specs.Reading.{readSheet}
+use Rattle.analysis.specs.Replies.{mainPairs}
 use Rattle.listing.specs.Listing.{opening}
 use Rattle.listing.specs.Replies.{heldAfter}
 use Rattle.listing.specs.declared.Listed.the-variants as listing
@@ -57,7 +61,6 @@ module _ (sheet b : List ℕ) where
             read = e;
             ok = ok;
             acyclic = acyclic;
-            met = λ i j. demand-3-met ours (tableOfRows rows roots) ok acyclic;
           }
       by-judge rows roots e (Refused r) why = absurd (refusal-not-exact r b (as-text (answer-judged ours sheet e why) says))
 
@@ -83,3 +86,9 @@ answer-exact κs a r s met n done =
     subst (λ (x : List ℕ). SaysExact x ↔ ExactRecipe (now (a .0)))
     (sym (met .held ∙ ap (heldAfter (laid (answerTo ours (now (a .0))) (now (a .1 .0))) (now (a .1 .0))) done))
     (exact-recipe (now (a .0)) (now (a .1 .0)), recipe-exact (now (a .0)) (now (a .1 .0)))
+
+-- any two labels that the analysis of that recipe pairs are then enabled at two different places in some reached state
+pub exact-recipe-met :
+    {sheet : List ℕ} (x : ExactRecipe sheet) {i j : ℕ}
+    → let p = programOf (tableOfRows (x .rows) (x .roots)) in marked (ours .words) (mainPairs (ours .words) p) i j ≡ 1 → MayMeet p (body p 0) i j
+exact-recipe-met x = demand-3-met ours (tableOfRows (x .rows) (x .roots)) (x .ok) (x .acyclic)

@@ -1,10 +1,11 @@
 -- The demands, of every table that is admitted at some size: the reported round is the first that repeats, so its sets are the least
 -- solution, and all that holds of least solutions holds of the words that are handed back. Assumes nothing.
-use mathlib.Core.Path.{_≡_, sym, _∙_, subst}
+use mathlib.Core.Path.{_≡_, sym, ap, _∙_, subst, fun-ext}
 use mathlib.Core.Logic.{_↔_}
 use mathlib.Core.Bool.{true, true≢false}
 use mathlib.Core.List.{List}
-use Prim.Native.Nat.{ℕ, suc, _*_, _≤_, _<_}
+use Prim.Native.Nat.{ℕ, zero, suc, _+_, _-_, _*_, _≤_, _<_}
+use native.Mathlib.Numerals.{unary-clauses}
 use native.Mathlib.Decide.{decLt}
 use native.Mathlib.Omega.{arith}
 use lib.ListN.{length, List·getD-eq-default}
@@ -30,6 +31,7 @@ use Rattle.calls.specs.declared.Verdict.the-variants as verdict
 use Rattle.calls.proofs.VerdictLaws.{exact-admitted, exact-exactly}
 use Rattle.analysis.specs.Meaning.{meaning}
 use Rattle.analysis.specs.Rounds.{after, settled}
+use Rattle.analysis.specs.Summaries.{WordSummary, wordsOf}
 use Rattle.analysis.specs.Replies.{rounds, mainPairs}
 use Rattle.analysis.proofs.Bound.{settled-repeats, repeats-settled, final-settled}
 use Rattle.analysis.proofs.LabelsInRange.{labels-in-range}
@@ -63,6 +65,24 @@ module _ (w : ℕ) (p : Program) where
   pub demand-2-bound : rounds w p ≤ 3 * length p
   unfolding rounds
   demand-2-bound = lowest-within (3 * length p) (settled w p)
+
+  -- a repeat lasts
+  repeat-lasts :
+      (k : ℕ) → ((f : ℕ) → after w p (suc k) f ≡ after w p k f) → (more f : ℕ) → after w p (suc (k + more)) f ≡ after w p (k + more) f
+  unfolding after
+  repeat-lasts k e zero f = simp unary-clauses (e f)
+  repeat-lasts k e (suc more) f =
+      simp unary-clauses (ap (λ (B : ℕ → WordSummary). wordsOf w B (body p f)) (fun-ext (repeat-lasts k e more)))
+
+  -- so a round after which something changes comes before the reported one
+  pub changes-before : (k f : ℕ) → ¬ (after w p (suc k) f ≡ after w p k f) → k < rounds w p
+  changes-before k f changes = either (decLt k (rounds w p))
+    where
+      either : Dec (k < rounds w p) → k < rounds w p
+      either (yes before) = before
+      either (no past) =
+          let later : rounds w p + (k - rounds w p) ≡ k = omega arith in
+          absurd (changes (rw later at (repeat-lasts (rounds w p) demand-2-repeats (k - rounds w p) f)))
 
 -- ---- of an admitted table
 

@@ -32,7 +32,7 @@ use Rattle.listing.specs.Replies.{listingOf, listedAs, listed, matrixListed, by
 use Rattle.listing.specs.declared.Listed.{Listed}
 use Rattle.listing.specs.declared.Listed.the-variants as listing
 use Rattle.listing.proofs.ReplyLaws.{fits}
-use Rattle.listing.proofs.SaysExact.{program-says, program-opens}
+use Rattle.listing.proofs.OpeningSays.{program-says, program-opens}
 use Rattle.listing.proofs.Sizes.{listed-held}
 use Rattle.listing.proofs.list_pairs.Reads.{Post as list-pairs-post}
 use Rattle.records.specs.Inner.{Answers, Lists}

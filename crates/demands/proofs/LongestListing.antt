@@ -28,7 +28,6 @@ use Rattle.calls.proofs.ReachedLaws.{calls-calling, no-self-call-exact}
 use Rattle.analysis.specs.Summaries.{WordSummary}
 use Rattle.analysis.specs.Rounds.{after}
 use Rattle.analysis.specs.Replies.{rounds, mainPairs}
-use Rattle.analysis.proofs.Bound.{changes-before}
 use Rattle.listing.specs.Pairs.{pairAt, pairs}
 use Rattle.listing.specs.Listing.{opening, pairLine, lines, listing, longestListing}
 use Rattle.listing.specs.Replies.{listingOf, listedAs, listed}
@@ -36,6 +35,7 @@ use Rattle.listing.specs.declared.Listed.the-variants as reply
 use Rattle.listing.proofs.LineLaws.{length-opening}
 use Rattle.listing.proofs.ReplyLaws.{too-long}
 use Rattle.listing.proofs.Sizes.{rounds-few}
+use Rattle.demands.proofs.Demands.{changes-before}
 
 -- ---- the recipe
 
@@ -115,12 +115,8 @@ slow : (marked w (after w long 188 1 .M) 0 0 ≡ 0) × (marked w (after w long 1
 unfolding long stepsFrom inTurn bit changed member single joined crossed after marked
 slow = (refl, refl)
 
-procedures : length long ≡ 64
-unfolding long inTurn
-procedures = refl
-
 many-rounds : 188 < rounds w long
-many-rounds = changes-before w long 188 1 (omega (arith, procedures)) changes
+many-rounds = changes-before w long 188 1 changes
   where
     changes : ¬ (after w long 189 1 ≡ after w long 188 1)
     changes e = omega (arith, slow .0, slow .1, ap (λ (x : WordSummary). marked w (x .M) 0 0) e)
@@ -139,9 +135,9 @@ unfolding long stepsFrom bit changed member single joined crossed after everyPai
 all-meet k = refl
 
 -- they are 2,080
-four-digits : length (spelled (pairsAtOrAbove w everyPair)) ≡ 4
+count-four-digits : length (spelled (pairsAtOrAbove w everyPair)) ≡ 4
 unfolding spelled spelledIn pairsAtOrAbove sumBelow marked member bit everyPair
-four-digits = refl
+count-four-digits = refl
 
 all-lines : length (lines (pairs w everyPair)) ≡ 11830
 unfolding lines pairLine spelled spelledIn inTurn pairAt member bit everyPair
@@ -156,7 +152,7 @@ long-listing r h l =
       arith,
       length-append (opening (pairsAtOrAbove w everyPair) r false) (lines (pairs w everyPair)),
       length-opening (pairsAtOrAbove w everyPair) r false,
-      four-digits,
+      count-four-digits,
       spelled-long 2 r h,
       spelled-short 2 r l,
       all-lines,

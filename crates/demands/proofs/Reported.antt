@@ -1,7 +1,8 @@
 -- What whoever lends a whole matrix for an admitted recipe may conclude of the reply r and the later words m' of any entry whose contract gives them: the judge
--- admits the recipe, so the reply is its rounds and the words are main's pairs, and the demands speak of those.
+-- admits the recipe, so the reply is its rounds and the words are main's pairs, and the demands speak of those. Where the verdict on it is exact, the premise
+-- of the last of them is there.
 -- Assumes nothing.
-use mathlib.Core.Path.{_≡_, refl, sym, ap, _∙_, subst}
+use mathlib.Core.Path.{_≡_, sym, ap, _∙_, subst}
 use mathlib.Core.Logic.{_↔_}
 use mathlib.Core.List.{List}
 use Prim.Native.Nat.{ℕ, _+_, _-_, _≤_, _<_}
@@ -12,7 +13,7 @@ use denote.Ref.{now}
 use lib.ListN.{length, getD, drop, length-append, length-drop}
 use lib.Seq.{getD-append-add, getD-drop}
 use Rattle.numbers.specs.General.{laid}
-use Rattle.numbers.specs.Sizes.{Size, ours, labelCeiling, matrixWords}
+use Rattle.numbers.specs.Sizes.{ours, labelCeiling, matrixWords}
 use Rattle.labels.specs.Words.{bit}
 use Rattle.matrix.specs.Matrix.{marked}
 use Rattle.matrix.proofs.MatrixLaws.{marked-beyond-label, marked-beyond-partner}
@@ -23,12 +24,10 @@ use Rattle.calculus.specs.Enabled.{MayMeet}
 use Rattle.calculus.specs.Rules.{Summary, summaryOf, Least}
 use Rattle.calculus.specs.Calls.{NoSelfCall}
 use Rattle.calculus.proofs.Theorems as calculus
-use Rattle.recipe.specs.Rules.{admitted, judgedWith}
+use Rattle.recipe.specs.Rules.{admitted}
 use Rattle.recipe.specs.Statements.{programOf}
 use Rattle.recipe.specs.Tables.{Table, tableOf}
-use Rattle.recipe.specs.declared.Judged.{Judged}
-use Rattle.recipe.specs.declared.Judged.the-variants.{Admitted, Refused}
-use Rattle.recipe.proofs.WithMatrix.{admitted-with, admitted-still}
+use Rattle.recipe.proofs.WithMatrix.{admitted-still}
 use Rattle.calls.specs.Verdicts.{verdictOn}
 use Rattle.calls.specs.declared.Verdict.the-variants as verdict
 use Rattle.calls.proofs.VerdictLaws.{exact-admitted}
@@ -41,16 +40,6 @@ use Rattle.analysis.proofs.Shape.{shaped-after}
 use Rattle.demands.specs.Demanded.{PairSet, Demanded, FirstRepeat}
 use Rattle.demands.proofs.Demands.{demand-2-pairs, demand-3-marked, demand-3-met, demand-3-exact, matrix-marks}
 use Rattle.demands.proofs.RuleRounds.{demand-2-rounds}
-
--- a reply of rounds is given of an admitted table with a whole matrix only
-pub rounds-of-admitted :
-    (z : Size) (t : Table) (words k : ℕ) → reply.Rounds k ≡ analysed z t words → admitted z t × (matrixWords (z .words) ≤ words)
-unfolding analysed
-rounds-of-admitted z t words k e = go (judgedWith z t words) refl
-  where
-    go : (j : Judged) → judgedWith z t words ≡ j → admitted z t × (matrixWords (z .words) ≤ words)
-    go Admitted j = admitted-with z t words j
-    go (Refused r) j = let n : _≡_ {A = ℕ} 0 1 = cc (ap (analysedAs z (programOf t)) j) in absurd (omega arith)
 
 -- both labels of a mark lie below the ceiling
 marked-below :

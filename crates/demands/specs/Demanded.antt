@@ -7,7 +7,6 @@ use Prim.Native.Nat.{ℕ, zero, suc, _≤_, _<_}
 use lib.ListN.{length, getD}
 use Rattle.numbers.specs.Sizes.{ours, labelCeiling, matrixWords, rowCeiling}
 use Rattle.labels.specs.Words.{bit}
-use Rattle.matrix.specs.Matrix.{marked}
 use Rattle.calculus.specs.Syntax.{Stmt, Program, body}
 use Rattle.calculus.specs.Steps.{Steps}
 use Rattle.calculus.specs.Enabled.{MayMeet}
@@ -19,7 +18,6 @@ use Rattle.recipe.specs.Statements.{programOf}
 use Rattle.recipe.specs.declared.Row.{Row}
 use Rattle.table.specs.Reading.{table}
 use Rattle.sheet.specs.Reading.{readSheet}
-use Rattle.analysis.specs.Replies.{mainPairs}
 use Rattle.listing.specs.Listing.{opening}
 
 -- Bit j of word i is set, and i and j are labels.
@@ -49,17 +47,13 @@ pub record ExactMeans (p : Program) (m' b' : List ℕ) : Type 0 where
   pub exactly : SaysExact b' ↔ NoSelfCall p
   pub met : SaysExact b' → (i j : ℕ) → PairSet m' i j → MayMeet p (body p 0) i j
 
--- The sheet spells an admitted recipe in which no procedure that main can reach, main included, can reach itself; and any two labels that its analysis pairs
--- are enabled at two different places in some reached state.
+-- The sheet spells an admitted recipe in which no procedure that main can reach, main included, can reach itself.
 pub record ExactRecipe (sheet : List ℕ) : Type 0 where
   pub rows : List Row
   pub roots : List ℕ
   pub read : readSheet ours rowCeiling (ours .procs) sheet ≡ table rows roots
   pub ok : admitted ours (tableOfRows rows roots)
   pub acyclic : NoSelfCall (programOf (tableOfRows rows roots))
-  pub met :
-      (i j : ℕ) → marked (ours .words) (mainPairs (ours .words) (programOf (tableOfRows rows roots))) i j ≡ 1
-      → MayMeet (programOf (tableOfRows rows roots)) (body (programOf (tableOfRows rows roots)) 0) i j
 
 -- The sets of procedure f after k rounds: none after none, and after one more those that the rules give its body from the round before.
 unfoldable pub ruleRounds : Program → ℕ → ℕ → Summary

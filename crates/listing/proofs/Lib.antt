@@ -3,7 +3,7 @@ pub mod PairLaws
 pub mod ReplyLaws
 pub mod Counted
 pub mod LineCounts
-pub mod SaysExact
+pub mod OpeningSays
 pub mod Sizes
 pub mod AscendingPairs
 pub mod Unique

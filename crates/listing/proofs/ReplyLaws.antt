@@ -1,7 +1,7 @@
 -- The reply goes by the judge's, and of an admitted table by the room: an analysis of an admitted table into a whole matrix of its own is never refused,
 -- and gives main's pairs. Assumes nothing.
 use mathlib.Core.Path.{_≡_, refl, sym, ap, ap₂, _∙_, subst}
-use mathlib.Core.Bool.{Bool, true, false, cond}
+use mathlib.Core.Bool.{Bool, cond}
 use mathlib.Core.List.{List, _++_, append-nil}
 use Prim.Native.Nat.{ℕ, _≤_, _<_}
 use native.Mathlib.Nat.{le-of-eq}

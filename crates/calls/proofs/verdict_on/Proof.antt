@@ -1,4 +1,4 @@
--- `verdict_on` meets its contract: a refusal is handed on, and an admitted table's verdict is whether a procedure reaches itself.
+-- `verdict_on` meets its contract: a refusal is handed on, and an admitted table's verdict is whether its program is wide.
 -- Assumes nothing.
 use mathlib.Core.Path.{_≡_, refl, sym, _∙_}
 use mathlib.Core.Bool.{Bool, cond}

@@ -1,4 +1,4 @@
--- `reaches_itself` meets its contract: the sets of direct calls, closed, are those of the procedures reached, so their own bits tell.
+-- `reaches_itself` meets its contract: the sets of direct calls, closed, are those of the procedures reached, so main's set and each one's own tell.
 -- Assumes nothing.
 use mathlib.Core.Path.{sym, ap, _∙_}
 use mathlib.Core.Bool.{not}
@@ -11,7 +11,7 @@ use Rattle.recipe.specs.Statements.{programOf}
 use Rattle.recipe.specs.Tables.{Table, tableOf, procs}
 use Rattle.recipe.proofs.Admitted.{sizes-right}
 use Rattle.recipe.proofs.Readings.{program-length}
-use Rattle.calls.specs.Inner.{closedBelow, noneInOwn}
+use Rattle.calls.specs.Inner.{closedBelow, noneInBoth}
 use Rattle.calls.proofs.SetLaws.{sets-wide}
 use Rattle.calls.proofs.reach.reaches_itself.Statement.{statement}
 use Rattle.calls.proofs.reach.reaches_itself.Tie as tie
@@ -42,8 +42,8 @@ direct-calls-requires c κs = (start c .pre, few c)
 close-requires : tie.Need-close-requires
 close-requires c κs = omega (arith, few (before-direct c), c .before .before .direct-calls .kept .0)
 
-none-in-own-requires : tie.Need-none-in-own-requires
-none-in-own-requires c κs =
+none-in-both-requires : tie.Need-none-in-both-requires
+none-in-both-requires c κs =
     let d = before-close c in
     omega (
       arith,
@@ -58,8 +58,8 @@ returns c =
     let d = before-close (c .before) in
     let t = table (before-direct d) in
     let n = procs t in
-    ap not (c .none-in-own .ensures
-    ∙ ap (noneInOwn n) (c .before .before .before .close .ensures ∙ ap (closedBelow n n) (d .before .before .direct-calls .ensures)))
+    ap not (c .none-in-both .ensures
+    ∙ ap (noneInBoth n) (c .before .before .before .close .ensures ∙ ap (closedBelow n n) (d .before .before .direct-calls .ensures)))
     ∙ sets-wide (programOf t) n _ (few (before-direct d)) (sym (program-length t))
 
 pub reaches-itself-spec : {M : Type 1} → statement M
@@ -67,4 +67,4 @@ reaches-itself-spec =
     tie.close
     (tie.spec
     (λ c. search needs) direct-calls-requires (λ c. search needs) close-requires (λ c. search needs)
-    none-in-own-requires returns)
+    none-in-both-requires returns)

@@ -1,4 +1,4 @@
--- `none_in_own` meets its contract: from the last procedure down, the answer is that of the procedures that are left.
+-- `none_in_both` meets its contract: from the last procedure down, the answer is that of the procedures that are left.
 -- Assumes nothing.
 use mathlib.Core.Path.{_≡_, refl, sym, ap, _∙_}
 use mathlib.Core.Bool.{Bool, true, false}
@@ -12,12 +12,12 @@ use borrow.Author.Tests.{eq-eqb, ne-eqb}
 use Rattle.labels.specs.Words.{bit}
 use Rattle.numbers.specs.General.{every}
 use Rattle.numbers.proofs.EveryLaws.{every-none, passes-down, fails-down}
-use Rattle.calls.specs.Inner.{noneInOwn}
-use Rattle.calls.proofs.reach.none_in_own.Statement.{statement}
-use Rattle.calls.proofs.reach.none_in_own.Tie as tie
+use Rattle.calls.specs.Inner.{noneInBoth}
+use Rattle.calls.proofs.reach.none_in_both.Statement.{statement}
+use Rattle.calls.proofs.reach.none_in_both.Tie as tie
 
 abbrev Inv-loop : tie.InvT-loop
-Inv-loop reach n main f₀ f = (f ≤ n) × (noneInOwn n reach ≡ noneInOwn f reach)
+Inv-loop reach n main f₀ f = (f ≤ n) × (noneInBoth n reach ≡ noneInBoth f reach)
 
 abbrev μ-loop : tie.MeasureT-loop
 μ-loop reach n main f₀ f = f
@@ -49,8 +49,8 @@ returns-2 c =
     let done : c .before .loop .f ≡ 0 = omega arith in
     sym (c .before .loop .inv .1 ∙ ap (λ (n : ℕ). every n (own (c .before))) done ∙ every-none (own (c .before)))
 
-pub none-in-own-spec : {M : Type 1} → statement M
-none-in-own-spec =
+pub none-in-both-spec : {M : Type 1} → statement M
+none-in-both-spec =
     tie.close
     (tie.spec
     Inv-loop μ-loop (λ c. omega arith) loop-holds (λ c. omega arith) (λ c. omega arith) (λ c. omega arith) (λ c. omega arith)

@@ -29,18 +29,18 @@ Digits a = (b : ℕ) → List·Memᴰ b a → isDigit b ≡ true
 tab-among-digits : {b : ℕ} {a : List ℕ} → Digits (b ∷ a) → b ≡ tab → ⊥
 tab-among-digits digits e = false≢true (sym tab-no-digit ∙ ap isDigit (sym e) ∙ digits _ (List·Memᴰ·head refl))
 
-digits-end : (a b x y : List ℕ) → Digits a → Digits b → a ++ (tab ∷ x) ≡ b ++ (tab ∷ y) → (a ≡ b) × (x ≡ y)
-digits-end [] [] x y f g e = (refl, cc)
-digits-end [] (d ∷ b) x y f g e = absurd (tab-among-digits g (cc))
-digits-end (c ∷ a) [] x y f g e = absurd (tab-among-digits f (cc))
-digits-end (c ∷ a) (d ∷ b) x y f g e =
-    let rest = digits-end a b x y (λ n h. f n (List·Memᴰ·tail h)) (λ n h. g n (List·Memᴰ·tail h)) (ap (drop 1) e) in
+digits-before-tab : (a b x y : List ℕ) → Digits a → Digits b → a ++ (tab ∷ x) ≡ b ++ (tab ∷ y) → (a ≡ b) × (x ≡ y)
+digits-before-tab [] [] x y f g e = (refl, cc)
+digits-before-tab [] (d ∷ b) x y f g e = absurd (tab-among-digits g (cc))
+digits-before-tab (c ∷ a) [] x y f g e = absurd (tab-among-digits f (cc))
+digits-before-tab (c ∷ a) (d ∷ b) x y f g e =
+    let rest = digits-before-tab a b x y (λ n h. f n (List·Memᴰ·tail h)) (λ n h. g n (List·Memᴰ·tail h)) (ap (drop 1) e) in
     let first : c ≡ d = cc in
     (ap₂ _∷_ first (rest .0), rest .1)
 
 number-ends : (m n : ℕ) (x y : List ℕ) → spelled m ++ (tab ∷ x) ≡ spelled n ++ (tab ∷ y) → (m ≡ n) × (x ≡ y)
 number-ends m n x y e =
-    let same = digits-end (spelled m) (spelled n) x y (spelled-digits m) (spelled-digits n) e in
+    let same = digits-before-tab (spelled m) (spelled n) x y (spelled-digits m) (spelled-digits n) e in
     (spelled-injective m n (same .0), same .1)
 
 -- ---- the opening line
