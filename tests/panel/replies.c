@@ -150,19 +150,19 @@ static void verdicts(void)
     memset(bytes, '#', sizeof bytes);
     expect("a self-call that is not reached",
            bushkalote_list_pairs(k, 2, x, 2, y, 2, p, 2, matrix, 64, bytes, sizeof bytes), sizeof exact - 2);
-    expect_bytes("its word", bytes, exact, sizeof exact - 1);
+    expect_bytes("its verdict", bytes, exact, sizeof exact - 1);
     memset(bytes, '#', sizeof bytes);
     expect("the same of records", bushkalote_list_rows(r, 2, p, 2, matrix, 64, bytes, sizeof bytes), sizeof exact - 2);
-    expect_bytes("their word", bytes, exact, sizeof exact - 1);
+    expect_bytes("their verdict", bytes, exact, sizeof exact - 1);
     k[0] = r[0].kind = 6;
     x[0] = r[0].x = 1;
     memset(bytes, '#', sizeof bytes);
     expect("a self-call that is reached",
            bushkalote_list_pairs(k, 2, x, 2, y, 2, p, 2, matrix, 64, bytes, sizeof bytes), sizeof wide - 2);
-    expect_bytes("its other word", bytes, wide, sizeof wide - 1);
+    expect_bytes("its other verdict", bytes, wide, sizeof wide - 1);
     memset(bytes, '#', sizeof bytes);
     expect("the same of these records", bushkalote_list_rows(r, 2, p, 2, matrix, 64, bytes, sizeof bytes), sizeof wide - 2);
-    expect_bytes("their other word", bytes, wide, sizeof wide - 1);
+    expect_bytes("their other verdict", bytes, wide, sizeof wide - 1);
 }
 
 /* True if the text is as it was filled. */
@@ -276,7 +276,7 @@ static void ceilings(void)
 
 /*
  * The longest listing: main is loop { async { 0; 1; ... 63 } }, and the other 63 procedures, which it does not call, are a
- * ring that takes three rounds each. Four digits of pairs, three of rounds, and the longer word.
+ * ring that takes three rounds each. Four digits of pairs, three of rounds, and the longer verdict.
  */
 static void longest_listing(void)
 {

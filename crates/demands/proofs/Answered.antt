@@ -1,4 +1,4 @@
--- What the word exact means in the answer to a sheet: a refusal's line begins with another letter, so the answer is the listing of an admitted recipe, and says
+-- What the verdict exact means in the answer to a sheet: a refusal's line begins with another letter, so the answer is the listing of an admitted recipe, and says
 -- exact exactly where that recipe has no self-calls from main on. `Answered` is what the contract of `answer` states. Assumes nothing.
 use mathlib.Core.Path.{_≡_, refl, sym, ap, _∙_, subst}
 use mathlib.Core.Logic.{_↔_}

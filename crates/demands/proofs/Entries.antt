@@ -1,5 +1,5 @@
 -- Demands 2 and 3 of every entry that is lent a matrix, from an admitted recipe and 64 words on: each contract gives the reply and the later words that
--- `Reported` speaks of, the listing's where the listing fits the lent bytes. And what the word exact means there, of any recipe: a reply that is a length tells
+-- `Reported` speaks of, the listing's where the listing fits the lent bytes. And what the verdict exact means there, of any recipe: a reply that is a length tells
 -- that the recipe is admitted, the matrix whole and the listing in front of the bytes. `Post` is a contract itself; `Answers`, `Lists` and `Analyses` are what
 -- contracts state (`records` and `panel`, proofs/Unique.antt). Assumes nothing.
 use mathlib.Core.Path.{_≡_, refl, sym, ap, _∙_, subst}
@@ -96,7 +96,7 @@ listing-exactly p b = (
       },
 )
 
--- what the word exact then means of the later words and bytes
+-- what the verdict exact then means of the later words and bytes
 pub listed-exact :
     (t : Table) (m b : List ℕ) (n : ℕ) → listed ours t (length m) (length b) ≡ listing.Length n
     → (m' b' : List ℕ) → m' ≡ matrixListed ours t m (length b) → b' ≡ bytesListed ours t (length m) b → ExactMeans (programOf t) m' b'

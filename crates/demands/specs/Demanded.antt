@@ -1,4 +1,4 @@
--- What demands 2 and 3 ask of the words that were lent for an admitted recipe, of its rounds on sets as the calculus has them, and of the word exact.
+-- What demands 2 and 3 ask of the words that were lent for an admitted recipe, of its rounds on sets as the calculus has them, and of the verdict exact.
 use mathlib.Core.Path.{_≡_}
 use mathlib.Core.Logic.{_↔_}
 use mathlib.Core.Bool.{false}

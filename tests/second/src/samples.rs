@@ -194,7 +194,7 @@ pub fn all_together(n: usize) -> Statement {
 }
 
 /// The recipe with the longest listing: main has every pair by itself and calls nobody, so the verdict is `exact`, the longer
-/// word; the rounds have three digits by a ring of all the other procedures, which main never reaches.
+/// one; the rounds have three digits by a ring of all the other procedures, which main never reaches.
 pub fn longest_listing() -> Table {
     let last = step(crate::LABELS - 1);
     let steps = (0..crate::LABELS - 1)
