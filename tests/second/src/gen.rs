@@ -223,6 +223,25 @@ pub fn with_unreached(dice: &mut Dice, table: &Table) -> Table {
     numbered(&table, &new_number)
 }
 
+/// Procedures that do nothing but call: each calls nobody, one or two of all,
+/// so that main often comes to a self-caller only by several calls.
+pub fn call_graph(dice: &mut Dice) -> Table {
+    let most = dice.one_of(&[6, 12, PROCEDURES]);
+    let fewer = dice.between(2, most);
+    let n = dice.one_of(&[most, fewer]);
+    let bodies: Vec<samples::Statement> = (0..n)
+        .map(|_| {
+            let [one, other] = [0; 2].map(|_| samples::call(dice.below(n)));
+            match dice.below(8) {
+                0..=1 => samples::skip(),
+                2..=6 => one,
+                _ => samples::seq(one, other),
+            }
+        })
+        .collect();
+    samples::recipe(&bodies)
+}
+
 /// A recipe that the judge admits.
 pub fn recipe(dice: &mut Dice) -> Table {
     let table = shape(dice);

@@ -262,6 +262,17 @@ fn the_verdict_speaks_of_main_and_whom_it_reaches() {
     let mut line: Vec<Statement> = (1..PROCEDURES).map(call).collect();
     line.push(call(PROCEDURES - 1));
     holds(&recipe(&line), &[], 0, "wide");
+    // A self-caller, and a caller of one, to which only the last procedure leads.
+    holds(
+        &recipe(&[call(3), call(2), call(2), call(1)]),
+        &[],
+        0,
+        "wide",
+    );
+    let mut through_last = vec![call(PROCEDURES - 1), call(2), call(2)];
+    through_last.resize_with(PROCEDURES - 1, skip);
+    through_last.push(call(1));
+    holds(&recipe(&through_last), &[], 0, "wide");
     // A call counts wherever it stands.
     let places: [fn(Statement) -> Statement; 5] = [
         looped,

@@ -18,6 +18,8 @@ const CASES: u64 = 2_000;
 const WRITTEN: u64 = 400;
 /// Tables that get procedures which main never reaches.
 const ENLARGED: u64 = 1_000;
+/// Recipes that do nothing but call.
+const GRAPHS: u64 = 2_000;
 
 #[test]
 fn the_generator_s_recipes_are_admitted_and_of_many_shapes() {
@@ -58,6 +60,25 @@ fn the_generator_s_recipes_are_admitted_and_of_many_shapes() {
         unreached_with_pairs > 80,
         "unreached self-callers beside pairs {unreached_with_pairs}"
     );
+}
+
+#[test]
+fn the_verdict_on_call_graphs() {
+    note_if_no_library("the comparison of call graphs");
+    let versions = versions();
+    let mut verdicts = [0; 2];
+    for i in 0..GRAPHS {
+        let dice = &mut Dice::new(compare::seed_of(16, i));
+        let table = gen::call_graph(dice);
+        let answer = second::work_out(&table);
+        verdicts[usize::from(answer.wide)] += 1;
+        let room = answer.listing.len();
+        for (name, panel) in &versions {
+            compare::listing(panel.as_ref(), dice, &table, Some(&answer), LABELS, room)
+                .unwrap_or_else(|what| panic!("{name}, graph {i}: {what}\n{table:?}"));
+        }
+    }
+    assert!(verdicts.iter().all(|&n| n > GRAPHS / 4), "{verdicts:?}");
 }
 
 #[test]
