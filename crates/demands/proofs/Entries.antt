@@ -41,7 +41,8 @@ use Rattle.panel.proofs.ReadBack.{success-told}
 use Rattle.panel.proofs.Unique as panel
 use Rattle.panel.proofs.bushkalote_analyse.Reads.{Post as c-analyse-post}
 use Rattle.panel.proofs.bushkalote_list_pairs.Reads.{Post as c-list-pairs-post}
-use Rattle.demands.specs.Demanded.{Demanded, SaysExact, ExactMeans}
+use Rattle.demands.specs.Demanded.{Demanded}
+use Rattle.demands.specs.Exact.{SaysExact, ExactMeans}
 use Rattle.demands.proofs.Reported.{reported-reply, reported-demands}
 
 -- ---- a listing that fits

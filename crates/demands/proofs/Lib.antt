@@ -3,7 +3,7 @@ pub mod Demands
 pub mod RuleRounds
 pub mod Reported
 pub mod Entries
-pub mod Answered
+pub mod AnswerSays
 pub mod LongestListing
 pub mod StarredRecipes
 pub mod RoundTrips

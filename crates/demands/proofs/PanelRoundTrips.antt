@@ -3,7 +3,6 @@
 use mathlib.Core.Path.{_≡_, refl, sym, ap, _∙_}
 use mathlib.Core.List.{List}
 use Prim.Native.Nat.{ℕ, _+_, _*_, _/_, _%_, _≤_, _<_}
-use native.Mathlib.Omega.{arith}
 use denote.Ref.{now}
 use lib.ListN.{length, take, length-map}
 use Rattle.numbers.specs.General.{laid}
@@ -17,7 +16,6 @@ use Rattle.table.proofs.Replies.{table-of}
 use Rattle.sheet.specs.Reading.{readSheet, readInto}
 use Rattle.records.specs.Records.{readRecords}
 use Rattle.writer.specs.Replies.{written, bytesWritten}
-use Rattle.writer.specs.declared.Written.the-variants as reply
 use Rattle.panel.specs.Codes.{numberUnit, procsUnit, readCode, writtenCode}
 use Rattle.panel.proofs.ReadBack.{stored-of-code}
 use Rattle.panel.proofs.Unique as panel

@@ -1,7 +1,7 @@
 -- What is written is read back the same, and what is read is written back byte for byte, by the contracts of the functions that ship: the writer and the
 -- reader go by one form. `Post` is a contract itself; `Writes` and `Reads` are what the contracts on records state (`writer` and `records`,
 -- proofs/Unique.antt). Assumes nothing.
-use mathlib.Core.Path.{_≡_, refl, sym, ap, ap₂, _∙_}
+use mathlib.Core.Path.{_≡_, sym, ap, ap₂, _∙_}
 use mathlib.Core.List.{List}
 use Prim.Native.Nat.{ℕ, _≤_}
 use native.Mathlib.Omega.{arith}

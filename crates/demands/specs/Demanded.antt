@@ -1,24 +1,16 @@
--- What demands 2 and 3 ask of the words that were lent for an admitted recipe, of its rounds on sets as the calculus has them, and of the verdict exact.
+-- What demands 2 and 3 ask of the words that were lent for an admitted recipe, and of its rounds on sets as the calculus has them.
 use mathlib.Core.Path.{_≡_}
 use mathlib.Core.Logic.{_↔_}
-use mathlib.Core.Bool.{false}
-use mathlib.Core.List.{List, _++_}
+use mathlib.Core.List.{List}
 use Prim.Native.Nat.{ℕ, zero, suc, _≤_, _<_}
 use lib.ListN.{length, getD}
-use Rattle.numbers.specs.Sizes.{ours, labelCeiling, matrixWords, rowCeiling}
+use Rattle.numbers.specs.Sizes.{ours, labelCeiling, matrixWords}
 use Rattle.labels.specs.Words.{bit}
 use Rattle.calculus.specs.Syntax.{Stmt, Program, body}
 use Rattle.calculus.specs.Steps.{Steps}
 use Rattle.calculus.specs.Enabled.{MayMeet}
 use Rattle.calculus.specs.Rules.{Summary, nothing, summaryOf, Inside, Least}
 use Rattle.calculus.specs.Calls.{NoSelfCall}
-use Rattle.recipe.specs.Records.{tableOfRows}
-use Rattle.recipe.specs.Rules.{admitted}
-use Rattle.recipe.specs.Statements.{programOf}
-use Rattle.recipe.specs.declared.Row.{Row}
-use Rattle.table.specs.Reading.{table}
-use Rattle.sheet.specs.Reading.{readSheet}
-use Rattle.listing.specs.Listing.{opening}
 
 -- Bit j of word i is set, and i and j are labels.
 abbrev pub PairSet : List ℕ → ℕ → ℕ → Type 0
@@ -33,27 +25,6 @@ pub record Demanded (p : Program) (m m' : List ℕ) : Type 1 where
   pub met : NoSelfCall p → (i j : ℕ) → PairSet m' i j → MayMeet p (body p 0) i j
   pub size : length m' ≡ length m
   pub beyond : (i : ℕ) → matrixWords (ours .words) ≤ i → getD m' i 0 ≡ getD m i 0
-
--- The bytes begin with an opening line that says exact.
-pub record SaysExact (b : List ℕ) : Type 0 where
-  pub count : ℕ
-  pub rounds : ℕ
-  pub rest : List ℕ
-  pub bytes : b ≡ opening count rounds false ++ rest
-
--- The bytes b' that were listed with the words m' say exact exactly where no procedure that main can reach, main included, can reach itself; and where they
--- say it, any two labels that the words pair are enabled at two different places in some reached state.
-pub record ExactMeans (p : Program) (m' b' : List ℕ) : Type 0 where
-  pub exactly : SaysExact b' ↔ NoSelfCall p
-  pub met : SaysExact b' → (i j : ℕ) → PairSet m' i j → MayMeet p (body p 0) i j
-
--- The sheet spells an admitted recipe in which no procedure that main can reach, main included, can reach itself.
-pub record ExactRecipe (sheet : List ℕ) : Type 0 where
-  pub rows : List Row
-  pub roots : List ℕ
-  pub read : readSheet ours rowCeiling (ours .procs) sheet ≡ table rows roots
-  pub ok : admitted ours (tableOfRows rows roots)
-  pub acyclic : NoSelfCall (programOf (tableOfRows rows roots))
 
 -- The sets of procedure f after k rounds: none after none, and after one more those that the rules give its body from the round before.
 unfoldable pub ruleRounds : Program → ℕ → ℕ → Summary

@@ -29,7 +29,7 @@ use Rattle.listing.specs.declared.Listed.the-variants as listing
 use Rattle.answer.specs.Answer.{refusedLine, refusalLine, answerTo}
 use Rattle.answer.proofs.Answers.{answer-refused, answer-judged, answer-listed}
 use Rattle.answer.proofs.answer.Reads.{Post as answer-post}
-use Rattle.demands.specs.Demanded.{SaysExact, ExactRecipe}
+use Rattle.demands.specs.Exact.{SaysExact, ExactRecipe}
 use Rattle.demands.proofs.Demands.{demand-3-met}
 use Rattle.demands.proofs.Entries.{listing-exactly}
 
@@ -53,14 +53,12 @@ module _ (sheet b : List ℕ) where
           (rows : List Row) (roots : List ℕ) → readSheet ours rowCeiling (ours .procs) sheet ≡ table rows roots
           → (j : Judged) → judged ours (tableOfRows rows roots) ≡ j → ExactRecipe sheet
       by-judge rows roots e Admitted ok =
-          let p = programOf (tableOfRows rows roots) in
-          let acyclic = listing-exactly p b .0 (as-text (answer-listed ours sheet e ok) says) in
           record {
             rows = rows;
             roots = roots;
             read = e;
             ok = ok;
-            acyclic = acyclic;
+            acyclic = listing-exactly (programOf (tableOfRows rows roots)) b .0 (as-text (answer-listed ours sheet e ok) says);
           }
       by-judge rows roots e (Refused r) why = absurd (refusal-not-exact r b (as-text (answer-judged ours sheet e why) says))
 
