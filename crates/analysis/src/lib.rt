@@ -1,4 +1,6 @@
 // The analysis: which labels may run at the same time, worked out in rounds from an admitted recipe.
+#![tactic(auto)]
+
 ghost use Rattle.std.specs.Prelude.{◌≡◌, length};
 ghost use Rattle.numbers.specs.Sizes.{ours};
 ghost use Rattle.recipe.specs.Tables.{table_of};
@@ -13,7 +15,7 @@ use numbers::Refusal;
 use recipe::Judged;
 
 // What the analysis replies: the rounds until one repeats, or the refusal.
-#[derive(Drop)]
+#[derive(Clone, Copy)]
 pub enum Analysed {
     Rounds(u32),
     Refused(Refusal),

@@ -8,7 +8,7 @@ ghost use Rattle.analysis.specs.Inner.{summary_words};
 use labels::Label;
 
 // O, what may still run, and L, what runs: each a set of labels as one word. The pairs, M, stand in a lent matrix.
-#[derive(Drop)]
+#[derive(Clone, Copy)]
 pub struct LabelSummary {
     pub o: u64,
     pub l: u64,

@@ -1,4 +1,6 @@
 // The answer to a sheet, laid at the front of lent bytes: the listing of its recipe, or the line of the refusal.
+#![tactic(auto)]
+
 ghost use Rattle.std.specs.Prelude.{◌≡◌, length};
 ghost use Rattle.numbers.specs.Sizes.{ours};
 ghost use Rattle.recipe.specs.Rules.{IsAdmitted};

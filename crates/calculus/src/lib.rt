@@ -1,1 +1,2 @@
 // No code: the calculus is definitions (specs/) and theorems about them (proofs/).
+#![tactic(auto)]

@@ -1,4 +1,6 @@
 // Calls: which procedures call and reach which, and the verdict on a recipe that follows from it.
+#![tactic(auto)]
+
 ghost use Rattle.std.specs.Prelude.{◌≡◌};
 ghost use Rattle.numbers.specs.Sizes.{ours};
 ghost use Rattle.recipe.specs.Tables.{table_of};
@@ -10,7 +12,7 @@ use numbers::Refusal;
 use recipe::Judged;
 
 // Wide where some procedure that main can reach by calls, main included, can reach itself by calls, exact where none can.
-#[derive(Drop)]
+#[derive(Clone, Copy)]
 pub enum Verdict {
     Exact,
     Wide,

@@ -1,10 +1,12 @@
 // Sets of labels, each one 64-bit number with label l at bit l.
+#![tactic(auto)]
+
 ghost use Rattle.std.specs.Prelude.{◌≡◌, ◌∷◌, [], eqb};
 ghost use Rattle.numbers.specs.Sizes.{ours};
 ghost use Rattle.labels.specs.Sets.{member, single, union};
 
 // A step's label. It is no procedure number and no row number.
-#[derive(Drop)]
+#[derive(Clone, Copy)]
 pub struct Label(pub u8);
 
 impl Label {

@@ -1,4 +1,6 @@
 // The listing of a recipe's pairs into lent bytes.
+#![tactic(auto)]
+
 ghost use Rattle.std.specs.Prelude.{◌≡◌, ◌≤◌, length};
 ghost use Rattle.numbers.specs.General.{laid};
 ghost use Rattle.numbers.specs.Sizes.{ours, matrix_words};
@@ -22,7 +24,7 @@ use recipe::Judged;
 pub const LONGEST: usize = 11858;
 
 // What listing the pairs replies: the listing's length in bytes, or the refusal.
-#[derive(Drop)]
+#[derive(Clone, Copy)]
 pub enum Listed {
     Length(usize),
     Refused(Refusal),

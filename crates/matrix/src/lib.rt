@@ -1,5 +1,7 @@
 // The matrix of label pairs: one word a label, bit j of word i for the pair (i,j).
 // A lent slice may be of any length: words that it lacks count as 0 and are not written, words beyond the matrix stay.
+#![tactic(auto)]
+
 ghost use Rattle.std.specs.Prelude.{◌≡◌, ◌∷◌, [], ◌-◌, ◌*◌, ◌^◌, ◌<◌, min, get_or};
 ghost use Rattle.std.specs.Int.Bits.{bit_or, bit_and};
 ghost use Rattle.std.specs.Int.Count.{ones};

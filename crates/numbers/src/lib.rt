@@ -1,10 +1,12 @@
 // The lowest room: row, procedure and line numbers kept apart, the ceilings by size, the numbered refusals, and definitions of general use.
+#![tactic(auto)]
+
 ghost use Rattle.std.specs.Prelude.{◌≡◌, min, ltb, length, get_or};
 ghost use Rattle.numbers.specs.General.{lowest};
 ghost use Rattle.numbers.specs.Refusals.{refusal_number, refusal_place};
 
 // The number of a row. It is no procedure number and no label.
-#[derive(Drop)]
+#[derive(Clone, Copy)]
 pub struct RowNumber(pub u16);
 
 impl RowNumber {
@@ -13,7 +15,7 @@ impl RowNumber {
 }
 
 // The number of a procedure. Procedure 0 is main.
-#[derive(Drop)]
+#[derive(Clone, Copy)]
 pub struct ProcNumber(pub u16);
 
 impl ProcNumber {
@@ -22,11 +24,11 @@ impl ProcNumber {
 }
 
 // The number of a sheet's line, counted from 0.
-#[derive(Drop)]
+#[derive(Clone, Copy)]
 pub struct LineNumber(pub u32);
 
 // The number of bytes of a sheet.
-#[derive(Drop)]
+#[derive(Clone, Copy)]
 pub struct SheetSize(pub usize);
 
 impl SheetSize {
@@ -38,7 +40,7 @@ impl SheetSize {
 pub const MATRIX_WORDS: usize = 64;
 
 // Every reply that refuses, with the place that it names.
-#[derive(Drop)]
+#[derive(Clone, Copy)]
 pub enum Refusal {
     // No rows or procedures where there must be some, too many of them, or slices that differ in length.
     Sizes,

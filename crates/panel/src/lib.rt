@@ -1,4 +1,6 @@
 // The way in from C: each entry on plain slices and on a slice of row records, a slice as a pointer and a length. A reply is one number (panel.h).
+#![tactic(auto)]
+
 ghost use Rattle.std.specs.Prelude.{◌≡◌, length};
 ghost use Rattle.numbers.specs.General.{laid};
 ghost use Rattle.numbers.specs.Sizes.{ours};

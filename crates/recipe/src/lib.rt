@@ -1,4 +1,6 @@
 // The recipe table: its rows, and the judge that admits a table or refuses it.
+#![tactic(auto)]
+
 mod rules;
 mod usage;
 
@@ -11,7 +13,7 @@ use numbers::{MATRIX_WORDS, ProcNumber, Refusal, RowNumber};
 
 // A row of the table: its kind, from 0 to 6, and two operands. C declares the same record.
 #[repr(C)]
-#[derive(Drop)]
+#[derive(Clone, Copy)]
 pub struct Row {
     pub kind: u8,
     pub x: u16,
@@ -19,7 +21,7 @@ pub struct Row {
 }
 
 // What the judge replies.
-#[derive(Drop)]
+#[derive(Clone, Copy)]
 pub enum Judged {
     Admitted,
     Refused(Refusal),

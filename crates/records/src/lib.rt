@@ -1,4 +1,6 @@
 // The analysis, the listing and the reader on a lent slice of row records.
+#![tactic(auto)]
+
 ghost use Rattle.std.specs.Prelude.{◌≡◌, List, length};
 ghost use Rattle.numbers.specs.General.{laid};
 ghost use Rattle.numbers.specs.Sizes.{ours};

@@ -1,4 +1,6 @@
 // The program: a sheet from standard input and its answer on standard output, or the sheets of all files named, each answer under its name.
+#![tactic(auto)]
+
 ghost use Rattle.std.specs.Prelude.{◌≡◌, ◌-◌, ◌≤◌, length, take};
 ghost use Rattle.numbers.specs.Sizes.{ours};
 ghost use Rattle.listing.specs.Listing.{longest_listing};
@@ -11,7 +13,7 @@ use listing::Listed;
 use numbers::SheetSize;
 
 // What reading a sheet comes to: so many bytes, or a failure.
-#[derive(Drop)]
+#[derive(Clone, Copy)]
 enum Taken {
     Bytes(usize),
     Failed,

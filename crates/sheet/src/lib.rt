@@ -1,4 +1,6 @@
 // The sheet: a recipe's table as lines of text, and its reader.
+#![tactic(auto)]
+
 ghost use Rattle.std.specs.Prelude.{◌≡◌};
 ghost use Rattle.numbers.specs.General.{laid};
 ghost use Rattle.numbers.specs.Sizes.{ours};

@@ -12,7 +12,7 @@ use table::Room;
 use text::Token;
 
 // A line that was found, with the place after it: a row, a procedure's root, none, or one of wrong form.
-#[derive(Drop)]
+#[derive(Clone, Copy)]
 pub enum Entry {
     Row(Row, usize),
     Root(u16, usize),
@@ -21,7 +21,7 @@ pub enum Entry {
 }
 
 // What is done with a line.
-#[derive(Drop)]
+#[derive(Clone, Copy)]
 pub enum Step {
     KeepRow(Row, usize),
     KeepRoot(u16, usize),

@@ -1,4 +1,6 @@
 // What keeps rows, for every reader: room and ceilings, what a reader comes to, rows and roots in arrays, laid into lent slices or records, and copied in.
+#![tactic(auto)]
+
 ghost use Rattle.std.specs.Prelude.{◌≡◌, min};
 ghost use Rattle.numbers.specs.Sizes.{ours, row_ceiling};
 ghost use Rattle.recipe.specs.Records.{kinds_of, xs_of, ys_of};
@@ -9,7 +11,7 @@ use numbers::{ProcNumber, Refusal, RowNumber, least};
 use recipe::Row;
 
 // How many rows and how many roots: room for them, or so many that are kept.
-#[derive(Drop)]
+#[derive(Clone, Copy)]
 pub struct Room {
     pub rows: usize,
     pub roots: usize,
@@ -28,7 +30,7 @@ impl Room {
 }
 
 // What reading comes to: the numbers of rows and of procedures that were stored, or a refusal.
-#[derive(Drop)]
+#[derive(Clone, Copy)]
 pub enum Read {
     Stored(usize, usize),
     Refused(Refusal),
@@ -45,7 +47,7 @@ pub fn reported(reply: Read) -> Room
 }
 
 // What is held of a reading: the reply, and at the front of the arrays the rows and the roots.
-#[derive(Drop)]
+#[derive(Clone, Copy)]
 pub struct Held {
     pub rows: [Row; RowNumber::CEILING],
     pub roots: [u16; ProcNumber::CEILING],
@@ -138,7 +140,7 @@ pub fn copy_out(n: usize, all: [Row; RowNumber::CEILING], rows: &mut [Row])
 }
 
 // The fields of as many rows as a table can have, each in an array of its own.
-#[derive(Drop)]
+#[derive(Clone, Copy)]
 pub struct Columns {
     pub kinds: [u8; RowNumber::CEILING],
     pub xs: [u16; RowNumber::CEILING],

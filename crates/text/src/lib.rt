@@ -1,4 +1,6 @@
 // Texts as bytes: the fields of a line, read at a place of some bytes and put at a place of lent bytes.
+#![tactic(auto)]
+
 ghost use Rattle.std.specs.Prelude.{◌≡◌, ◌∷◌, [], ◌++◌, ◌+◌, ◌*◌, ◌^◌, ◌≤◌, ◌<◌, length, drop};
 ghost use Rattle.text.specs.Bytes.{digit, is_digit};
 ghost use Rattle.text.specs.Numbers.{spelled};
@@ -6,7 +8,7 @@ ghost use Rattle.text.specs.Fields.{text_at, digits_at, digits_after, number_at}
 ghost use Rattle.text.specs.Inner.{token_at, Put, field_of, Ahead};
 
 // A field that was found, with its number and the place behind it, or none of the right form.
-#[derive(Drop)]
+#[derive(Clone, Copy)]
 pub enum Token {
     Found(u16, usize),
     Missing,

@@ -1,4 +1,6 @@
 // The writer: a recipe's table as a sheet in lent bytes, from plain slices and from a lent slice of row records.
+#![tactic(auto)]
+
 ghost use Rattle.std.specs.Prelude.{◌≡◌, List, length};
 ghost use Rattle.numbers.specs.Sizes.{ours};
 ghost use Rattle.recipe.specs.Records.{table_of_rows};
@@ -16,7 +18,7 @@ mod lines;
 mod rules;
 
 // What writing replies: the sheet's length in bytes, or the refusal.
-#[derive(Drop)]
+#[derive(Clone, Copy)]
 pub enum Written {
     Length(usize),
     Refused(Refusal),
