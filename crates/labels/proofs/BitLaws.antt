@@ -34,15 +34,15 @@ max_below h l = omega arith
 low_digit : (a c : ℕ) → c < 2 → (a * 2 + c) % 2 ≡ c
 low_digit a c h = omega arith
 
-pub bit_or : (x y i : ℕ) → bit (bit_or x y) i ≡ max (bit x i) (bit y i)
+pub bit_of_or : (x y i : ℕ) → bit (bit_or x y) i ≡ max (bit x i) (bit y i)
 unfolding bit
-bit_or x y i =
+bit_of_or x y i =
     ap (λ (n : ℕ). n % 2) (or_shr x y i ∙ or_step (x / 2 ^ i) (y / 2 ^ i))
     ∙ low_digit (bit_or (x / 2 ^ i / 2) (y / 2 ^ i / 2)) (max (bit x i) (bit y i)) (max_below (bit_lt x i) (bit_lt y i))
 
-pub bit_and : (x y i : ℕ) → bit (bit_and x y) i ≡ min (bit x i) (bit y i)
+pub bit_of_and : (x y i : ℕ) → bit (bit_and x y) i ≡ min (bit x i) (bit y i)
 unfolding bit
-bit_and x y i =
+bit_of_and x y i =
     ap (λ (n : ℕ). n % 2) (and_shr x y i ∙ and_step (x / 2 ^ i) (y / 2 ^ i))
     ∙ low_digit (bit_and (x / 2 ^ i / 2) (y / 2 ^ i / 2)) (min (bit x i) (bit y i)) (lt_of_le_of_lt (min-le_left (bit x i) (bit y i)) (bit_lt x i))
 

@@ -17,7 +17,7 @@ use Rattle.numbers.specs.Sizes.{word_bits, label_ceiling}
 use Rattle.labels.specs.Words.{bit, Words}
 use Rattle.numbers.specs.General.{one_if}
 use Rattle.labels.specs.Sets.{member, none, single, joined, union}
-use Rattle.labels.proofs.BitLaws.{bit_lt, bit_of_zero, bit_or, bit_of_power, bits_make_the_word}
+use Rattle.labels.proofs.BitLaws.{bit_lt, bit_of_zero, bit_of_or, bit_of_power, bits_make_the_word}
 use Rattle.labels.proofs.ChangedLaws.{length_changed, changed_below, words_changed}
 
 pub member_lt : (s : List ℕ) (l : ℕ) → member s l < 2
@@ -49,7 +49,7 @@ pub member_joined :
 unfolding member joined
 member_joined n a b l h k =
     ap (λ (x : ℕ). bit x (l % word_bits)) (changed_below n (λ k x. bit_or x (get_or b k 0)) a (l / word_bits) h k)
-    ∙ bit_or (get_or a (l / word_bits) 0) (get_or b (l / word_bits) 0) (l % word_bits)
+    ∙ bit_of_or (get_or a (l / word_bits) 0) (get_or b (l / word_bits) 0) (l % word_bits)
 
 pub member_union :
     (w : ℕ) (a b : List ℕ) (l : ℕ) → length a ≡ w → l < label_ceiling w → member (union w a b) l ≡ max (member a l) (member b l)
