@@ -2,7 +2,6 @@
 -- does nothing and is never passed, and the rules do not see that.
 -- And a solution that is not the least can be anything at all, so that O need not lie inside L, nor M be symmetric.
 -- Assumes nothing.
-use mathlib.Core.Path.{refl}
 use mathlib.Core.Logic.{inl, inr}
 use mathlib.Core.List.{[], ◌∷◌}
 use Prim.Native.Nat.{ℕ, zero, suc}
@@ -24,11 +23,20 @@ module _ (p : Program) (g : ℕ) (again : Begins g (body p g)) where
   stuck : {s : Stmt} → Done p s → ¬ Begins g s
   stuck (Done.followed d e) (under_first i) = stuck d i
   stuck (Done.called d) at_call = stuck d again
+  stuck Done.at_once i = elim i [ ]
+  stuck Done.acted i = elim i [ ]
+  stuck Done.left i = elim i [ ]
+  stuck Done.spawned i = elim i [ ]
+  stuck (Done.waited _) i = elim i [ ]
 
   none_runs : {s : Stmt} {l : ℕ} → Runs p (Done p) s l → ¬ Begins g s
   none_runs (Runs.first h) (under_first i) = none_runs h i
   none_runs (Runs.second d h) (under_first i) = stuck d i
   none_runs (Runs.called h) at_call = none_runs h again
+  none_runs Runs.now i = elim i [ ]
+  none_runs (Runs.looped _) i = elim i [ ]
+  none_runs (Runs.spawned _) i = elim i [ ]
+  none_runs (Runs.waited _) i = elim i [ ]
 
   none_stays : {s : Stmt} {l : ℕ} → Stays p (Done p) s l → ¬ Begins g s
   none_stays h = none_runs (stays_runs p (Done p) h)
@@ -39,6 +47,10 @@ module _ (p : Program) (g : ℕ) (again : Begins g (body p g)) where
   none_meet (Meets.across (inl h)) (under_first i) = none_stays h.0 i
   none_meet (Meets.across (inr h)) (under_first i) = none_stays h.1 i
   none_meet (Meets.called m) at_call = none_meet m again
+  none_meet (Meets.looped _) i = elim i [ ]
+  none_meet (Meets.around _) i = elim i [ ]
+  none_meet (Meets.spawned _) i = elim i [ ]
+  none_meet (Meets.waited _) i = elim i [ ]
 
   -- It has no labels and no pairs.
   silent : {s : Stmt} → Begins g s → Inside (derived_at p (Done p) s) nothing

@@ -12,7 +12,7 @@ use Rattle.calculus.proofs.Cases.{apart}
 use Rattle.calculus.proofs.Inside.{both}
 use Rattle.calculus.proofs.Derivations.{Runs, Stays, Meets}
 use Rattle.calculus.proofs.Places.{At, here, first, second, spawned, waited, Twice, at_both, twice_enabled}
-use Rattle.calculus.proofs.Ending.{Done, left, Can, Passed, nothing_left, threads_left, under_first, under_second, under_async, under_finish}
+use Rattle.calculus.proofs.Ending.{Done, Can, Passed, nothing_left, threads_left, under_first, under_second, under_async, under_finish}
 use Rattle.calculus.proofs.Ending.{can_now, can_reduce, can_under, can_map, can_after, done_can}
 
 -- The label is enabled.
