@@ -10,20 +10,20 @@ use native.Mathlib.Nat.{min-eq_left, min-zero, le_of_suc-le-suc, not-suc-le-zero
 use native.Mathlib.Decide.{dec_le}
 use native.Mathlib.Omega.{arith}
 use lib.Bits.{bit_and, and_lt}
-use lib.Count.{ones}
+use lib.Count.{ones, ones-le}
 use lib.Dec.{leb, lit<, leb-zero, leb-suc-zero, leb-suc-suc}
 use lib.ListN.{get_or, drop}
 use lib.Pow.{high_ones, pow_pos}
 use lib.Seq.{get_or-take, get_or-drop}
 use borrow.Author.Tests.{le-leb, lt-leb}
-use Rattle.numbers.specs.Sizes.{word_bits, label_ceiling}
+use Rattle.numbers.specs.Sizes.{ours, word_bits, label_ceiling}
 use Rattle.labels.specs.Words.{bit, Words}
 use Rattle.numbers.specs.General.{one_if, sum_below}
 use Rattle.labels.specs.Sets.{member}
 use Rattle.matrix.specs.Matrix.{partners, marked, pairs_at_or_above}
-use Rattle.labels.proofs.BitLaws.{bit_lt, bit_first, bit_next, bit_and}
+use Rattle.labels.proofs.BitLaws.{bit_lt, bit_first, bit_next, bit_of_and}
 use Rattle.labels.proofs.ChangedLaws.{words_take, words_drop}
-use Rattle.numbers.proofs.SumLaws.{sum_alike, sum_split}
+use Rattle.numbers.proofs.SumLaws.{sum_alike, sum_split, sum_bounded}
 use Rattle.labels.proofs.OnesLaws.{ones_are_bits}
 use Rattle.labels.proofs.SetLaws.{member_at}
 
@@ -88,7 +88,7 @@ pub ones_masked :
 ones_masked x k h l =
     ones_are_bits word_bits (bit_and x (high_mask k)) (and_lt word_bits x (high_mask k) h (omega (arith, pow_pos k)))
     ∙ sum_alike word_bits (bit (bit_and x (high_mask k))) (λ b. one_if (leb k b) * bit x b)
-    (λ b p. bit_and x (high_mask k) b ∙ ap (λ (y : ℕ). min (bit x b) y) (bit_of_mask k b l p) ∙ min_is_times (leb k b) (bit x b) (bit_lt x b))
+    (λ b p. bit_of_and x (high_mask k) b ∙ ap (λ (y : ℕ). min (bit x b) y) (bit_of_mask k b l p) ∙ min_is_times (leb k b) (bit x b) (bit_lt x b))
 
 -- word q with the labels below i masked out: its first i - 64 * q bits, all of them where that is more than it has
 abbrev pub from_label : ℕ → ℕ → ℕ → ℕ
@@ -138,3 +138,14 @@ pairs_by_words w m wm =
   where
     get_or_partners : (i q : ℕ) → q < w → get_or (partners w m i) q 0 ≡ get_or m (i * w + q) 0
     get_or_partners i q l = get_or-take w (drop (i * w) m) q 0 l ∙ get_or-drop (i * w) m q 0
+
+-- the pairs of the first i labels of a matrix of one word a label
+unfoldable pub pairs_below : List ℕ → ℕ → ℕ
+pairs_below m i = sum_below i (λ k. ones (bit_and (get_or m k 0) (high_mask k)))
+
+pub row_few : (m : List ℕ) → Words m → (k : ℕ) → k < label_ceiling ours.words → ones (bit_and (get_or m k 0) (high_mask k)) ≤ word_bits
+row_few m wm k h = ones-le word_bits _ (and_lt word_bits (get_or m k 0) (high_mask k) (wm k) (omega (arith, pow_pos k)))
+
+pub pairs_few : (m : List ℕ) → Words m → (i : ℕ) → i ≤ label_ceiling ours.words → pairs_below m i ≤ i * word_bits
+unfolding pairs_below
+pairs_few m wm i h = sum_bounded i word_bits _ (λ k l. row_few m wm k (omega arith))

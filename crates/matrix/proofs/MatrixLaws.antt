@@ -10,7 +10,7 @@ use native.Mathlib.Nat.{mod-eq_of_lt, mod-lt, add-zero, div-add-mod', div-lt_iff
 use native.Mathlib.Nat.{le_of_suc-le-suc}
 use native.Mathlib.Decide.{dec_lt}
 use native.Mathlib.Omega.{arith}
-use lib.Bits.{bit_or, or_lt, or_zero_l}
+use lib.Bits.{bit_or, or_lt}
 use lib.Dec.{lit<}
 use lib.ListN.{length, get_or, take, drop, length-take, drop_of_length-le, get_or-append}
 use lib.Seq.{ext_get_or, get_or-take, get_or-drop, take-nil}
@@ -20,7 +20,7 @@ use Rattle.labels.specs.Words.{bit, Words, changed}
 use Rattle.labels.specs.Sets.{member, none, joined}
 use Rattle.matrix.specs.Matrix.{partners, marked, merged, crossed}
 use Rattle.matrix.specs.Inner.{cleared, copied}
-use Rattle.labels.proofs.BitLaws.{bit_or, bit_times, bit_of_zero, bits_make_the_word}
+use Rattle.labels.proofs.BitLaws.{bit_of_or, bit_times, bit_of_zero, bits_make_the_word}
 use Rattle.labels.proofs.ChangedLaws.{length_changed, changed_below, words_changed}
 use Rattle.labels.proofs.SetLaws.{member_lt, member_beyond, get_or_none}
 
@@ -92,7 +92,7 @@ module _ (w : ℕ) (m : List ℕ) (whole : matrix_words w ≤ length m) where
   unfolding joined
   marked_merged n i j hi hj =
       marked_changed (λ k x. bit_or x (get_or n k 0)) i j hi hj
-      ∙ bit_or (get_or m (i * w + j / word_bits) 0) (get_or n (i * w + j / word_bits) 0) (j % word_bits)
+      ∙ bit_of_or (get_or m (i * w + j / word_bits) 0) (get_or n (i * w + j / word_bits) 0) (j % word_bits)
       ∙ sym (ap₂ max (marked_at w m i j hj) (marked_at w n i j hj))
 
   -- a pair is marked after the crossing if it was before, or joins a label of a with one of b, either way round
@@ -110,9 +110,9 @@ module _ (w : ℕ) (m : List ℕ) (whole : matrix_words w ≤ length m) where
       ∙ ap₂ (λ (x y : ℕ). min (member c x) (bit (get_or d y 0) r)) (place_label w i q below) (place_word w i q below)
       ∙ ap (λ (x : ℕ). min (member c i) x) (sym (member_word d j)) in
       marked_changed (λ k x. bit_or x (bit_or (member a (k / w) * get_or b (k % w) 0) (member b (k / w) * get_or a (k % w) 0))) i j hi hj
-      ∙ bit_or (get_or m k 0) (bit_or (member a (k / w) * get_or b (k % w) 0) (member b (k / w) * get_or a (k % w) 0)) r
+      ∙ bit_of_or (get_or m k 0) (bit_or (member a (k / w) * get_or b (k % w) 0) (member b (k / w) * get_or a (k % w) 0)) r
       ∙ ap₂ max (sym (marked_at w m i j hj))
-      (bit_or (member a (k / w) * get_or b (k % w) 0) (member b (k / w) * get_or a (k % w) 0) r ∙ ap₂ max (one a b) (one b a))
+      (bit_of_or (member a (k / w) * get_or b (k % w) 0) (member b (k / w) * get_or a (k % w) 0) r ∙ ap₂ max (one a b) (one b a))
 
   pub crossed_symmetric :
       (a b : List ℕ) (i j : ℕ) → i < label_ceiling w → j < label_ceiling w
