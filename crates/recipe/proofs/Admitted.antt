@@ -2,10 +2,10 @@
 -- Assumes nothing.
 use Prim.Native.Nat.{ℕ, ◌≤◌, ◌<◌}
 use mathlib.Core.List.{[]}
-use mathlib.Core.Path.{◌≡◌, refl, sym, ap, ◌∙◌, subst}
-use mathlib.Core.Bool.{Bool, true, false, not, ◌&&◌}
+use mathlib.Core.Path.{◌≡◌, refl, sym, ◌∙◌, subst}
+use mathlib.Core.Bool.{Bool, true, false, ◌&&◌}
 use native.Mathlib.Omega.{arith}
-use borrow.Author.Tests.{ltb-true, ltb-false, le-ltb, leb-false, lt-leb, eqb-false, ne_eqb, not-false}
+use borrow.Author.Tests.{ltb-true, ltb-false, leb-false, eqb-false, not-false}
 use lib.Dec.{ltb, eqb}
 use lib.ListN.{length}
 use Rattle.numbers.specs.Sizes.{Size, label_ceiling}
@@ -14,9 +14,9 @@ use Rattle.numbers.specs.General.{lowest}
 use Rattle.recipe.specs.Rules.{sizes_fit, kind_unknown, operands_right, operand_wrong, root_missing, uses, used_again, unused, judged_by, IsAdmitted}
 use Rattle.recipe.specs.Statements.{Child}
 use Rattle.recipe.specs.declared.Judged.TheVariants.{Admitted}
-use Rattle.numbers.proofs.LowestLaws.{none_at_all, lowest_none}
+use Rattle.numbers.proofs.LowestLaws.{none_at_all}
 use Rattle.recipe.proofs.Operands.{and_first, and_second, child_before}
-use Rattle.recipe.proofs.Judging.{RightSizes, sized, sizes_test, passed_if_admitted, passed_on, all_passed, from_operands, from_roots}
+use Rattle.recipe.proofs.Judging.{RightSizes, sized, passed_if_admitted, from_operands, from_roots}
 use Rattle.recipe.proofs.Judging.{from_used_again, from_unused}
 use Rattle.recipe.proofs.Judging.{sizes_passed, sizes_refused}
 

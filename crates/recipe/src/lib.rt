@@ -28,6 +28,7 @@ pub enum Judged {
 }
 
 // Whether there are from 1 to the ceiling rows and procedures, and both operands to each row.
+#[tactic(auto, unfolding(crate::specs::Rules::sizes_right))]
 fn sizes_right(rows: usize, xs: usize, ys: usize, procs: usize) -> bool
     ensures { result ≡ sizes_right ours rows xs ys procs }
 {

@@ -10,6 +10,7 @@ use labels::Label;
 use numbers::{ProcNumber, RowNumber};
 
 // Whether the operands of a row are as its kind wants them. Each kind has its own rule.
+#[tactic(auto, unfolding(crate::specs::Rules::operands_right))]
 fn operands_right(kind: u8, x: u16, y: u16, row: RowNumber, procs: usize) -> bool
     ensures { result ≡ operands_right ours (kind_of kind) x y row.0 procs }
 {
