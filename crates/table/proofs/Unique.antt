@@ -1,5 +1,5 @@
--- Two results and later contents that meet a public function's contract are equal, since each contract is an equation. `Post` is the contract itself; of the
--- walks by hand, what the contracts state is said first.
+-- Two results and later contents that meet a public function's contract are equal, since each contract is an equation. `Post` is the contract itself; of
+-- `copy_out` and `copy_in`, what the contracts state is said first.
 -- Assumes nothing.
 use mathlib.Core.Path.{◌≡◌, refl, sym, ◌∙◌}
 use mathlib.Core.List.{List}
@@ -48,7 +48,7 @@ store_rows_determined κs a r r' s s' p q = (p.0 ∙ sym q.0, p.1.0 ∙ sym q.1.
 pub store_roots_determined : (κs a r r' s s' : _) → store-roots-post κs a r s → store-roots-post κs a r' s' → s.0.now ≡ s'.0.now
 store_roots_determined κs a r r' s s' p q = p ∙ sym q
 
--- What the walks' contracts state, word for word.
+-- What their contracts state, word for word.
 module _ {M : Type 1} {𝓤 : Ura M} (𝓛 : Logic 𝓤) (mem : Memory → SProp 𝓤) (run : Routine → Fun 𝓤) where
   pub copy_out_states :
       (κs a r e : _)

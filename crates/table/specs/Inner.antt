@@ -1,5 +1,5 @@
 -- Only the contracts of functions below the entries speak of these: rows and roots held in arrays, laid over lent places, and copied.
-use Rattle.std.specs.Prelude.{List, [], ◌∷◌, ℕ, zero, suc, min, length, replicate}
+use Rattle.std.specs.Prelude.{List, [], ◌∷◌, ℕ, zero, suc, replicate}
 use Rattle.numbers.specs.General.{laid}
 use Rattle.numbers.specs.Sizes.{ours, row_ceiling}
 use Rattle.recipe.specs.Records.{kinds_of, xs_of, ys_of}
