@@ -18,7 +18,7 @@ built() {
     times=$(grep -cx "$1" "$FAKE_RUNS")
     [ "$times" -eq "$2" ] || fault "$1 is built $times times and not $2"
 }
-forget() { rm -rf "$tree/target" "$FAKE_RUNS"; : >"$FAKE_RUNS"; }
+forget() { rm -rf "$tree/target" "$tree"/crates/*/out "$FAKE_RUNS"; : >"$FAKE_RUNS"; }
 
 progress() {
     local crates=($FAKE_CRATES) at
@@ -42,7 +42,7 @@ run "PATH=$bare ./pairs $burnt"
 status 0; prints "$listing"; tells ""
 
 begin "the program missing while its stamps are there"
-rm "$tree/target/bin/report"
+rm "$tree/target/bin/report" "$tree/crates/report/out/report"
 run "PATH=$fakes ./pairs $burnt"
 status 0; prints "$listing"; tells_of ": report"; built report 2; built text 1
 
@@ -99,7 +99,7 @@ begin "a build that fails"
 forget
 run "FAKE_WAY=fails PATH=$fakes ./pairs $burnt"
 status 3; prints ""; tells_of "pairs: the build failed; its log is $tree/target/pairs-report.log"
-grep -qF "report NOT PROVED" "$tree/target/pairs-report.log" || fault "the log does not say why"
+grep -qF "logic=not-proved" "$tree/target/pairs-report.log" || fault "the log does not say why"
 
 begin "a build after one that failed"
 run "PATH=$fakes ./pairs $burnt"
@@ -123,7 +123,7 @@ for signal in INT TERM KILL; do
     begin "a build broken off by $signal"
     forget
     run "PATH=$fakes:$work/flock ./pairs $burnt"
-    rm "$tree/target/bin/report"
+    rm "$tree/target/bin/report" "$tree/crates/report/out/report"
     # What is started in the background ignores INT, and bash cannot undo that.
     (cd "$tree" && exec setsid env --default-signal=INT FAKE_WAY=stalls "PATH=$fakes:$work/flock" ./pairs "$burnt") \
         >"$out" 2>"$err" &
