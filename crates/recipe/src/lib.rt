@@ -88,6 +88,7 @@ pub fn judge(kinds: &[u8], xs: &[u16], ys: &[u16], roots: &[u16]) -> Judged
 }
 
 // Judges a table for whoever is lent a matrix of so many words: wrong sizes first, then a matrix that is too short, then the rest.
+#[tactic(auto, using(crate::proofs::WithMatrix::wrong_sizes, crate::proofs::WithMatrix::short_matrix, crate::proofs::WithMatrix::whole_matrix))]
 pub fn judge_with(kinds: &[u8], xs: &[u16], ys: &[u16], roots: &[u16], words: usize) -> Judged
     ensures { let t = table_of kinds.now xs.now ys.now roots.now in
         result ≡ judged_with ours t words }
