@@ -14,7 +14,7 @@ use borrow.Author.Tests.{ne_eqb}
 use Rattle.numbers.proofs.EveryLaws.{every_alike}
 use Rattle.calculus.specs.Syntax.{Stmt, skip, step, seq, loop, async, finish, call, Program, body}
 use Rattle.labels.specs.Words.{bit}
-use Rattle.labels.proofs.BitLaws.{bit_lt, bit_of_zero, bit_or, bit_and, bit_times, bit_of_power}
+use Rattle.labels.proofs.BitLaws.{bit_lt, bit_of_zero, bit_of_or, bit_of_and, bit_times, bit_of_power}
 use Rattle.labels.proofs.ChangedLaws.{length_changed, changed_below}
 use Rattle.numbers.specs.General.{one_if, every}
 use Rattle.calls.specs.Inner.{calls_of, direct_calls, through_also, closed_below, none_in_both}
@@ -51,7 +51,7 @@ unfolding calls_of calling
 calls_bit skip g = bit_of_zero g
 calls_bit (step l) g = bit_of_zero g
 calls_bit (seq s t) g =
-    bit_or (calls_of s) (calls_of t) g ∙ ap₂ max (calls_bit s g) (calls_bit t g) ∙ max_or (calling s g) (calling t g)
+    bit_of_or (calls_of s) (calls_of t) g ∙ ap₂ max (calls_bit s g) (calls_bit t g) ∙ max_or (calling s g) (calling t g)
 calls_bit (loop s) g = calls_bit s g
 calls_bit (async s) g = calls_bit s g
 calls_bit (finish s) g = calls_bit s g
@@ -74,7 +74,7 @@ module _ (p : Program) (n : ℕ) (sets : List ℕ) (room : n ≤ length sets) wh
       ap (λ (set : ℕ). bit set g) (changed_below n (λ f set. calls_of (body p f)) sets f l (omega arith)) ∙ calls_bit (body p f) g
   closed_bit (suc k) h f l g =
       ap (λ (set : ℕ). bit set g) (changed_below n (λ f set. bit_or set (bit set k * get_or (closed k) k 0)) (closed k) f l (omega (arith, closed_size k)))
-      ∙ bit_or (get_or (closed k) f 0) (bit (get_or (closed k) f 0) k * get_or (closed k) k 0) g
+      ∙ bit_of_or (get_or (closed k) f 0) (bit (get_or (closed k) f 0) k * get_or (closed k) k 0) g
       ∙ ap₂ max (closed_bit k (omega arith) f l g)
       (bit_times (bit (get_or (closed k) f 0) k) (get_or (closed k) k 0) g (bit_lt (get_or (closed k) f 0) k)
       ∙ ap₂ min (closed_bit k (omega arith) f l k) (closed_bit k (omega arith) k h g)
@@ -97,7 +97,7 @@ module _ (p : Program) (n : ℕ) (sets : List ℕ) (room : n ≤ length sets) wh
           → eqb (bit (bit_and (get_or (closed n) 0 0) (get_or (closed n) f 0)) f) 0 ≡ not ((eqb f 0 || reached p n 0 f) && reached p n f f)
       own f l =
           ap (λ (x : ℕ). eqb x 0)
-          (bit_and (get_or (closed n) 0 0) (get_or (closed n) f 0) f
+          (bit_of_and (get_or (closed n) 0 0) (get_or (closed n) f 0) f
           ∙ ap₂ min (closed_bit n (le_refl n) 0 (omega arith) f) (closed_bit n (le_refl n) f l f)
           ∙ min_and (reached p n 0 f) (reached p n f f))
           ∙ none_is_not (reached p n 0 f && reached p n f f)
