@@ -5,7 +5,7 @@ use mathlib.Core.List.{List, [], ◌∷◌, ◌++◌, flat_map}
 use Prim.Native.Nat.{ℕ, zero, suc, ◌+◌}
 use lib.ListN.{length, get_or, length-append}
 use Rattle.numbers.specs.General.{in_turn}
-use Rattle.numbers.proofs.InTurnLaws.{one_more_in_turn, list_of_ones}
+use Rattle.numbers.proofs.InTurnLaws.{list_of_ones}
 use Rattle.recipe.specs.Tables.{Table, rows}
 use Rattle.sheet.specs.Form.{spelled_row, spelled_root, spell}
 use Rattle.sheet.proofs.Outcomes.{spelled_on}
