@@ -62,6 +62,7 @@ fn put_listing(bytes: &mut [u8], pairs: &[u64], count: u32, rounds: u32, wide: b
 }
 
 // Hands the pairs and their listing over, where the listing fits the bytes. Where it does not, nothing is written.
+#[tactic(auto, using(crate::proofs::ReplyLaws::too_long_lem, crate::proofs::ReplyLaws::fits, matrix::proofs::MatrixLaws::copied_laid))]
 fn hand_over(matrix: &mut [u64], bytes: &mut [u8], pairs: &[u64], rounds: u32, wide: bool) -> Listed
     requires { (length pairs.now ≡ matrix_words ours.words) × (matrix_words ours.words ≤ length matrix.old) }
     ensures reply { result ≡ fitted (listing ours.words pairs.now rounds wide) (length bytes.old) }
