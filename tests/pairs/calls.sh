@@ -134,6 +134,12 @@ cp "$tree/$bad" "$tree/odd/"$'\e[1mb\xff'
 run "cd odd && ../pairs \$'\\e[1mb\\xff'"
 status 1; prints "$refused"; tells "$(words '\u{1b}[1mb�')$line"
 
+begin "several sheets, with names that are no UTF-8"
+cp "$tree/$burnt" "$tree/odd/"$'a\xff'
+cp "$tree/$burnt" "$tree/odd/"$'b\xfe'
+run "cd odd && ../pairs \$'a\\xff' \$'b\\xfe'"
+status 0; prints $'a\xff'"$line$listing"$'b\xfe'"$line$listing"; tells ""
+
 begin "from another folder"
 run "cd / && '$tree/pairs' '$tree/$burnt'"
 status 0; prints "$listing"; tells ""
