@@ -8,9 +8,8 @@ use Rattle.analysis.specs.Replies.{analysed, matrix_after}
 use Rattle.analysis.specs.declared.Analysed.{Analysed}
 use Rattle.listing.specs.Replies.{listed, matrix_listed, bytes_listed}
 use Rattle.listing.specs.declared.Listed.{Listed}
-use Rattle.table.specs.Reading.{Reading, rows_of, roots_of, reply_of}
+use Rattle.table.specs.Reading.{rows_of, roots_of, reply_of}
 use Rattle.table.specs.declared.Read.{Read}
-use Rattle.sheet.specs.Reading.{read_sheet}
 use Rattle.records.specs.Records.{read_records}
 
 -- The reply r to these rows, these roots and the matrix m, and the matrix m' after it.
