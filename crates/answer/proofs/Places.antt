@@ -11,7 +11,6 @@ use lib.ListN.{length, length-append}
 use Rattle.numbers.specs.General.{lowest}
 use Rattle.numbers.specs.Refusals.{refusal_place}
 use Rattle.numbers.specs.Sizes.{Size, row_ceiling, sheet_ceiling}
-use Rattle.numbers.specs.declared.Refusal.{Refusal}
 use Rattle.numbers.specs.declared.Refusal.TheVariants.{LongSheet}
 use Rattle.recipe.specs.Rules.{Rule, rules_of, judged_by, judged}
 use Rattle.recipe.specs.Tables.{Table, rows, procs}
