@@ -10,7 +10,7 @@ use Rattle.sheet.proofs.hold_sheet.Goals as goal
 
 pub returns-then-bytes-gt-CEILING : goal.returns-then-bytes-gt-CEILING
 returns-then-bytes-gt-CEILING c =
-    c.refusal.ensures ∙ ap held_of (sym (sheet_too_long ours _ _ _ c.if-bytes-gt-CEILING.true))
+    c.refusal.ensures ∙ ap held_of (sym (sheet_too_long ours c.args.places.rows c.args.places.roots c.args.bytes.now (omega arith)))
 
 pub loop-row-init : goal.loop-row-init
 loop-row-init c = nothing_kept _ _ _ _ _ (omega arith) (omega arith) c.no_rows-rows.ensures c.no_roots-roots.ensures
@@ -48,10 +48,10 @@ opened bytes rowsLent rootsLent short fits = sheet_opened ours rowsLent rootsLen
 pub returns-in-Done : goal.returns-in-Done
 returns-in-Done c =
     kept_on c.loop-row.invariant Done c.in-Done.ensures
-    ∙ ap held_of (sym (opened _ _ _ c.if-bytes-gt-CEILING.false c.within_ceilings-room.ensures))
+    ∙ ap held_of (sym (opened c.args.bytes.now c.args.places.rows c.args.places.roots (omega arith) c.within_ceilings-room.ensures))
 
 pub returns-in-Refuse : goal.returns-in-Refuse
 returns-in-Refuse c =
     c.refusal-in-Refuse.ensures
-    ∙ ap held_of (sym (opened _ _ _ c.if-bytes-gt-CEILING.false c.within_ceilings-room.ensures
+    ∙ ap held_of (sym (opened c.args.bytes.now c.args.places.rows c.args.places.roots (omega arith) c.within_ceilings-room.ensures
     ∙ kept_on c.loop-row.invariant (Refuse c.in-Refuse.why) c.in-Refuse.ensures))
