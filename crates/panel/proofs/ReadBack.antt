@@ -87,6 +87,7 @@ NearBy [] = Unit
 NearBy (r ∷ more) = ((i : ℕ) → i < r.places → Near (r.refusal i)) × NearBy more
 
 near_refused : (rules : List Rule) {why : Refusal} → NearBy rules → Refuses rules why → Near why
+near_refused [] {why = why} near o = elim o [ ]
 near_refused (r ∷ more) near (Refuses.here {i = i} f) = near.0 i f.there
 near_refused (r ∷ more) near (Refuses.later none o) = near_refused more near.1 o
 

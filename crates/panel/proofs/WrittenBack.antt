@@ -27,7 +27,7 @@ use Rattle.writer.proofs.Judging.{WritableSizes, sized, sizes_pass}
 use Rattle.writer.proofs.Refusing.{written_refused_means, length_exact, row_told, root_told}
 use Rattle.writer.proofs.RoundTrips.{table_keeps}
 use Rattle.writer.proofs.Sizes.{sheet_short}
-use Rattle.panel.specs.Codes.{number_unit, refusal_code, written_code}
+use Rattle.panel.specs.Codes.{number_unit, written_code}
 use Rattle.panel.proofs.ReadBack.{halves_told, success_told}
 
 module _ (t : Table) where

@@ -1,4 +1,4 @@
-// The way in from C: each entry on plain slices and on a slice of row records, a slice as a pointer and a length. A reply is one number (panel.h).
+// The way in from C: each entry on plain slices and on a slice of row records. A reply is one number (panel.h). `panel_c` exports the entries.
 #![tactic(auto)]
 
 ghost use Rattle.std.specs.Prelude.{◌≡◌, length};
@@ -77,8 +77,7 @@ fn written_code(reply: Written) -> u64
 }
 
 // The analysis, for a caller in C.
-#[unsafe(no_mangle)]
-pub extern "C" fn bushkalote_analyse(
+pub fn bushkalote_analyse(
     kinds: &[u8],
     xs: &[u16],
     ys: &[u16],
@@ -94,8 +93,7 @@ pub extern "C" fn bushkalote_analyse(
 }
 
 // The reader, for a caller in C.
-#[unsafe(no_mangle)]
-pub extern "C" fn bushkalote_read_sheet(
+pub fn bushkalote_read_sheet(
     bytes: &[u8],
     kinds: &mut [u8],
     xs: &mut [u16],
@@ -113,8 +111,7 @@ pub extern "C" fn bushkalote_read_sheet(
 }
 
 // The listing, for a caller in C.
-#[unsafe(no_mangle)]
-pub extern "C" fn bushkalote_list_pairs(
+pub fn bushkalote_list_pairs(
     kinds: &[u8],
     xs: &[u16],
     ys: &[u16],
@@ -133,8 +130,7 @@ pub extern "C" fn bushkalote_list_pairs(
 }
 
 // The writer, for a caller in C.
-#[unsafe(no_mangle)]
-pub extern "C" fn bushkalote_write_sheet(
+pub fn bushkalote_write_sheet(
     kinds: &[u8],
     xs: &[u16],
     ys: &[u16],
@@ -150,8 +146,7 @@ pub extern "C" fn bushkalote_write_sheet(
 }
 
 // The analysis on row records, for a caller in C.
-#[unsafe(no_mangle)]
-pub extern "C" fn bushkalote_analyse_rows(rows: &[Row], roots: &[u16], matrix: &mut [u64]) -> u64
+pub fn bushkalote_analyse_rows(rows: &[Row], roots: &[u16], matrix: &mut [u64]) -> u64
     ensures { let t = table_of_rows rows.now roots.now in
         (result ≡ analysed_code (analysed ours t (length matrix.old)))
         × (matrix.new ≡ matrix_after ours t matrix.old) }
@@ -160,8 +155,7 @@ pub extern "C" fn bushkalote_analyse_rows(rows: &[Row], roots: &[u16], matrix: &
 }
 
 // The reader into row records, for a caller in C.
-#[unsafe(no_mangle)]
-pub extern "C" fn bushkalote_read_rows(bytes: &[u8], rows: &mut [Row], roots: &mut [u16]) -> u64
+pub fn bushkalote_read_rows(bytes: &[u8], rows: &mut [Row], roots: &mut [u16]) -> u64
     ensures { let w = read_records ours bytes.now rows.old roots.old in
         (result ≡ read_code (reply_of w))
         × (rows.new ≡ laid (rows_of w) rows.old)
@@ -171,8 +165,7 @@ pub extern "C" fn bushkalote_read_rows(bytes: &[u8], rows: &mut [Row], roots: &m
 }
 
 // The listing on row records, for a caller in C.
-#[unsafe(no_mangle)]
-pub extern "C" fn bushkalote_list_rows(
+pub fn bushkalote_list_rows(
     rows: &[Row],
     roots: &[u16],
     matrix: &mut [u64],
@@ -187,8 +180,7 @@ pub extern "C" fn bushkalote_list_rows(
 }
 
 // The writer from row records, for a caller in C.
-#[unsafe(no_mangle)]
-pub extern "C" fn bushkalote_write_rows(rows: &[Row], roots: &[u16], bytes: &mut [u8]) -> u64
+pub fn bushkalote_write_rows(rows: &[Row], roots: &[u16], bytes: &mut [u8]) -> u64
     ensures { let t = table_of_rows rows.now roots.now in
         (result ≡ written_code (written ours t (length bytes.old)))
         × (bytes.new ≡ bytes_written ours t bytes.old) }

@@ -1,0 +1,137 @@
+// The static library: the entries of `panel` for a caller in C, each with the same contract, a slice as a pointer and a length (panel.h).
+#![tactic(auto)]
+
+ghost use Rattle.std.specs.Prelude.{◌≡◌, length};
+ghost use Rattle.numbers.specs.General.{laid};
+ghost use Rattle.numbers.specs.Sizes.{ours};
+ghost use Rattle.recipe.specs.Tables.{table_of};
+ghost use Rattle.recipe.specs.Records.{kinds_of, xs_of, ys_of, table_of_rows};
+ghost use Rattle.analysis.specs.Replies.{analysed, matrix_after};
+ghost use Rattle.listing.specs.Replies.{listed, matrix_listed, bytes_listed};
+ghost use Rattle.table.specs.Reading.{rows_of, roots_of, reply_of};
+ghost use Rattle.sheet.specs.Reading.{read_into};
+ghost use Rattle.records.specs.Records.{read_records};
+ghost use Rattle.writer.specs.Replies.{written, bytes_written};
+ghost use Rattle.panel.specs.Codes.{refusal_code, analysed_code, read_code, listed_code, written_code};
+
+use recipe::Row;
+
+// The analysis, for a caller in C.
+#[unsafe(no_mangle)]
+pub extern "C" fn bushkalote_analyse(
+    kinds: &[u8],
+    xs: &[u16],
+    ys: &[u16],
+    roots: &[u16],
+    matrix: &mut [u64],
+) -> u64
+    ensures reply { let t = table_of kinds.now xs.now ys.now roots.now in
+        result ≡ analysed_code (analysed ours t (length matrix.old)) }
+    ensures pairs { let t = table_of kinds.now xs.now ys.now roots.now in
+        matrix.new ≡ matrix_after ours t matrix.old }
+{
+    panel::bushkalote_analyse(kinds, xs, ys, roots, matrix)
+}
+
+// The reader, for a caller in C.
+#[unsafe(no_mangle)]
+pub extern "C" fn bushkalote_read_sheet(
+    bytes: &[u8],
+    kinds: &mut [u8],
+    xs: &mut [u16],
+    ys: &mut [u16],
+    roots: &mut [u16],
+) -> u64
+    ensures { let w = read_into ours bytes.now kinds.old xs.old ys.old roots.old in
+        (result ≡ read_code (reply_of w))
+        × ((kinds.new ≡ laid (kinds_of (rows_of w)) kinds.old)
+        × ((xs.new ≡ laid (xs_of (rows_of w)) xs.old)
+        × ((ys.new ≡ laid (ys_of (rows_of w)) ys.old)
+        × (roots.new ≡ laid (roots_of w) roots.old)))) }
+{
+    panel::bushkalote_read_sheet(bytes, kinds, xs, ys, roots)
+}
+
+// The listing, for a caller in C.
+#[unsafe(no_mangle)]
+pub extern "C" fn bushkalote_list_pairs(
+    kinds: &[u8],
+    xs: &[u16],
+    ys: &[u16],
+    roots: &[u16],
+    matrix: &mut [u64],
+    bytes: &mut [u8],
+) -> u64
+    ensures reply { let t = table_of kinds.now xs.now ys.now roots.now in
+        result ≡ listed_code (listed ours t (length matrix.old) (length bytes.old)) }
+    ensures pairs { let t = table_of kinds.now xs.now ys.now roots.now in
+        matrix.new ≡ matrix_listed ours t matrix.old (length bytes.old) }
+    ensures text { let t = table_of kinds.now xs.now ys.now roots.now in
+        bytes.new ≡ bytes_listed ours t (length matrix.old) bytes.old }
+{
+    panel::bushkalote_list_pairs(kinds, xs, ys, roots, matrix, bytes)
+}
+
+// The writer, for a caller in C.
+#[unsafe(no_mangle)]
+pub extern "C" fn bushkalote_write_sheet(
+    kinds: &[u8],
+    xs: &[u16],
+    ys: &[u16],
+    roots: &[u16],
+    bytes: &mut [u8],
+) -> u64
+    ensures reply { let t = table_of kinds.now xs.now ys.now roots.now in
+        result ≡ written_code (written ours t (length bytes.old)) }
+    ensures text { let t = table_of kinds.now xs.now ys.now roots.now in
+        bytes.new ≡ bytes_written ours t bytes.old }
+{
+    panel::bushkalote_write_sheet(kinds, xs, ys, roots, bytes)
+}
+
+// The analysis on row records, for a caller in C.
+#[unsafe(no_mangle)]
+pub extern "C" fn bushkalote_analyse_rows(rows: &[Row], roots: &[u16], matrix: &mut [u64]) -> u64
+    ensures { let t = table_of_rows rows.now roots.now in
+        (result ≡ analysed_code (analysed ours t (length matrix.old)))
+        × (matrix.new ≡ matrix_after ours t matrix.old) }
+{
+    panel::bushkalote_analyse_rows(rows, roots, matrix)
+}
+
+// The reader into row records, for a caller in C.
+#[unsafe(no_mangle)]
+pub extern "C" fn bushkalote_read_rows(bytes: &[u8], rows: &mut [Row], roots: &mut [u16]) -> u64
+    ensures { let w = read_records ours bytes.now rows.old roots.old in
+        (result ≡ read_code (reply_of w))
+        × (rows.new ≡ laid (rows_of w) rows.old)
+        × (roots.new ≡ laid (roots_of w) roots.old) }
+{
+    panel::bushkalote_read_rows(bytes, rows, roots)
+}
+
+// The listing on row records, for a caller in C.
+#[unsafe(no_mangle)]
+pub extern "C" fn bushkalote_list_rows(
+    rows: &[Row],
+    roots: &[u16],
+    matrix: &mut [u64],
+    bytes: &mut [u8],
+) -> u64
+    ensures { let t = table_of_rows rows.now roots.now in
+        (result ≡ listed_code (listed ours t (length matrix.old) (length bytes.old)))
+        × (matrix.new ≡ matrix_listed ours t matrix.old (length bytes.old))
+        × (bytes.new ≡ bytes_listed ours t (length matrix.old) bytes.old) }
+{
+    panel::bushkalote_list_rows(rows, roots, matrix, bytes)
+}
+
+// The writer from row records, for a caller in C.
+#[unsafe(no_mangle)]
+pub extern "C" fn bushkalote_write_rows(rows: &[Row], roots: &[u16], bytes: &mut [u8]) -> u64
+    ensures { let t = table_of_rows rows.now roots.now in
+        (result ≡ written_code (written ours t (length bytes.old)))
+        × (bytes.new ≡ bytes_written ours t bytes.old) }
+{
+    panel::bushkalote_write_rows(rows, roots, bytes)
+}
