@@ -8,9 +8,11 @@ ghost use Rattle.answer.specs.Answer.{answer_to};
 ghost use Rattle.io.specs.Counts.{IsPrefixLen};
 ghost use Rattle.report.specs.Inner.{AtMost};
 
-use libc::{STDERR_FILENO, STDIN_FILENO, STDOUT_FILENO};
 use listing::Listed;
 use numbers::SheetSize;
+use std::env::{Env, FillError};
+use std::fs::File;
+use std::io::Read;
 
 // What reading a sheet comes to: so many bytes, or a failure.
 #[derive(Clone, Copy)]
@@ -20,19 +22,18 @@ enum Taken {
 }
 
 // One more piece of a file, behind what is there already. A read that fails is no end of the file.
-fn more(file: i32, buffer: &mut [u8], done: usize) -> Taken
+fn more<R: Read>(file: &mut R, buffer: &mut [u8], done: usize) -> Taken
     requires { done ≤ length buffer.old }
     ensures { AtMost (length buffer.old - done) result }
 {
-    let got = libc::read(file, &mut buffer[done..]);
-    if got < 0 {
-        return Taken::Failed;
+    match file.read(&mut buffer[done..]) {
+        Ok(n) => Taken::Bytes(n),
+        Err(_) => Taken::Failed,
     }
-    Taken::Bytes(io::count(got, &buffer[done..]))
 }
 
 // Reads until the file ends or the buffer is full.
-fn take_in(file: i32, buffer: &mut [u8]) -> Taken
+fn take_in<R: Read>(file: &mut R, buffer: &mut [u8]) -> Taken
     ensures { AtMost (length buffer.old) result }
 {
     let mut done: usize = 0;
@@ -51,31 +52,32 @@ fn take_in(file: i32, buffer: &mut [u8]) -> Taken
 }
 
 // Reads the file of a name, and closes it before anything is written.
-fn take_file(name: &[u8], buffer: &mut [u8]) -> Taken
+fn take_file(rt: &HostRuntime, name: &[u8], buffer: &mut [u8]) -> Taken
     ensures { AtMost (length buffer.old) result }
 {
-    let file = os::open_read(name);
-    if file < 0 {
+    let Ok(path) = str::from_utf8(name) else {
         return Taken::Failed;
+    };
+    match File::open(rt, path) {
+        Ok(mut file) => take_in(&mut file, buffer),
+        Err(_) => Taken::Failed,
     }
-    let taken = take_in(file, buffer);
-    libc::close(file);
-    taken
 }
 
 // Tells on standard error what failed, and of which file.
-fn tell(what: &[u8], which: &[u8]) {
-    io::write_all(STDERR_FILENO, b"report: ");
-    io::write_all(STDERR_FILENO, what);
-    io::write_all(STDERR_FILENO, which);
-    io::write_all(STDERR_FILENO, b"\n");
+fn tell(rt: &HostRuntime, what: &[u8], which: &[u8]) {
+    let errors = rt.stderr();
+    let _ = errors.write_all(b"report: ");
+    let _ = errors.write_all(what);
+    let _ = errors.write_all(which);
+    let _ = errors.write_all(b"\n");
 }
 
 // Writes to standard output, and says whether it could; a failure is told.
-fn put(bytes: &[u8]) -> bool {
-    let written = io::write_all(STDOUT_FILENO, bytes);
+fn put(rt: &HostRuntime, bytes: &[u8]) -> bool {
+    let written = rt.stdout().write_all(bytes).is_ok();
     if !written {
-        tell(b"cannot write to ", b"standard output");
+        tell(rt, b"cannot write to ", b"standard output");
     }
     written
 }
@@ -102,74 +104,85 @@ fn answered(sheet: &[u8], bytes: &mut [u8]) -> usize
 }
 
 // Prints the answer to a sheet, and says whether it could.
-fn report(sheet: &[u8]) -> bool {
+fn report(rt: &HostRuntime, sheet: &[u8]) -> bool {
     let mut bytes = answer_room();
     let n = answered(sheet, &mut bytes);
-    put(&bytes[..n])
+    put(rt, &bytes[..n])
 }
 
 // Prints a name on a line of its own and below it the answer to its sheet, and says whether it could.
-fn report_named(name: &[u8], sheet: &[u8]) -> bool {
-    put(name) && put(b"\n") && report(sheet)
+fn report_named(rt: &HostRuntime, name: &[u8], sheet: &[u8]) -> bool {
+    put(rt, name) && put(rt, b"\n") && report(rt, sheet)
 }
 
 // Answers the sheet on standard input.
-fn answer_input() {
+fn answer_input(rt: &HostRuntime) {
     let mut sheet = sheet_room();
-    match take_in(STDIN_FILENO, &mut sheet) {
-        Taken::Failed => tell(b"cannot read ", b"standard input"),
+    match take_in(&mut rt.stdin(), &mut sheet) {
+        Taken::Failed => tell(rt, b"cannot read ", b"standard input"),
         Taken::Bytes(n) => {
-            report(&sheet[..n]);
+            report(rt, &sheet[..n]);
         }
     }
 }
 
 // Answers the sheet in the file of a name, and says whether to go on: a file that cannot be read is told and keeps no other from its answer.
-fn answer_file(name: &[u8]) -> bool {
+fn answer_file(rt: &HostRuntime, name: &[u8]) -> bool {
     let mut sheet = sheet_room();
-    match take_file(name, &mut sheet) {
+    match take_file(rt, name, &mut sheet) {
         Taken::Failed => {
-            tell(b"cannot read ", name);
+            tell(rt, b"cannot read ", name);
             true
         }
-        Taken::Bytes(n) => report_named(name, &sheet[..n]),
+        Taken::Bytes(n) => report_named(rt, name, &sheet[..n]),
     }
 }
 
 // The name that an argument gives, at the front of the bytes, and its length. One that does not fit fills them: too long for a path, it opens nothing.
-fn name_of(argument: usize, bytes: &mut [u8]) -> usize
+fn name_of(rt: &HostRuntime, argument: usize, bytes: &mut [u8]) -> usize
     ensures { IsPrefixLen result bytes.new }
 {
-    let n = os::arg(argument, bytes);
-    if os::errno() == libc::ENAMETOOLONG {
-        return bytes.len();
+    match rt.arg(argument, bytes) {
+        Ok(n) => n,
+        Err(FillError::TooLong) => bytes.len(),
+        Err(FillError::NotPresent) => 0,
     }
-    n
 }
 
 // Answers the sheet in the file that an argument names, and says whether to go on.
-fn answer_argument(argument: usize) -> bool {
+fn answer_argument(rt: &HostRuntime, argument: usize) -> bool {
     let mut bytes = io::buffer();
-    let n = name_of(argument, &mut bytes);
-    answer_file(&bytes[..n])
+    let n = name_of(rt, argument, &mut bytes);
+    answer_file(rt, &bytes[..n])
 }
 
 // Answers the sheets in the files that the arguments name, in their order; argument 0 is the program's own name.
-fn answer_arguments(count: usize) {
+fn answer_arguments(rt: &HostRuntime, count: usize) {
     let mut argument = 1;
     while argument < count {
-        if !answer_argument(argument) {
+        if !answer_argument(rt, argument) {
             return;
         }
         argument += 1;
     }
 }
 
-fn main() {
-    let count = os::arg_count();
+// How many arguments there are, argument 0 among them.
+fn argument_count(rt: &HostRuntime) -> usize {
+    for argument in 0..usize::MAX {
+        match rt.arg(argument, &mut []) {
+            Err(FillError::NotPresent) => return argument,
+            Err(FillError::TooLong) | Ok(_) => {}
+        }
+    }
+    usize::MAX
+}
+
+fn main(rt: HostRuntime) {
+    let count = argument_count(&rt);
     if count > 1 {
-        answer_arguments(count);
+        answer_arguments(&rt, count);
     } else {
-        answer_input();
+        answer_input(&rt);
     }
 }
