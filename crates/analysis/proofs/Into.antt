@@ -3,19 +3,18 @@
 use mathlib.Core.Path.{◌≡◌, sym, ap, ◌∙◌, subst}
 use mathlib.Core.List.{List}
 use Prim.Native.Nat.{ℕ, ◌≤◌, ◌<◌, min, max}
-use native.Mathlib.Nat.{max-zero, zero-max, le_of_eq}
+use native.Mathlib.Nat.{max-zero, zero-max}
 use native.Mathlib.Omega.{arith}
 use lib.Bits.{bit_or, or_self}
-use lib.ListN.{length, get_or, get_or-eq_default}
+use lib.ListN.{length, get_or, get_or-eq_default, length-replicate}
 use lib.Seq.{ext_get_or}
-use Rattle.numbers.specs.Sizes.{label_ceiling, matrix_words}
+use Rattle.numbers.specs.Sizes.{matrix_words}
 use Rattle.labels.specs.Sets.{member, none, joined}
-use Rattle.labels.proofs.SetLaws.{length_joined}
+use Rattle.labels.proofs.SetLaws.{length_joined, get_or_none}
 use Rattle.labels.proofs.ChangedLaws.{changed_below, changed_beyond}
 use Rattle.matrix.specs.Matrix.{marked, merged, crossed}
 use Rattle.matrix.specs.Inner.{cleared}
-use Rattle.matrix.proofs.MatrixLaws.{marks_make_the_matrix, marked_none, marked_cleared, marked_beyond_label, marked_beyond_partner}
-use Rattle.matrix.proofs.MatrixLaws.{length_cleared, words_cleared}
+use Rattle.matrix.proofs.MatrixLaws.{marks_make_the_matrix, marked_none, length_cleared}
 use Rattle.analysis.proofs.Shape.{Sized, sized_none, sized_joined, sized_crossed}
 use Rattle.analysis.proofs.Meanings.{by_range, merged_marks, crossed_marks}
 
@@ -72,18 +71,20 @@ module _ (w : ℕ) where
       ∙ ap (λ (k : ℕ). max (marked w m i j) k) (marked_none w i j)
       ∙ max-zero (marked w m i j))
 
-  pub sized_cleared : {m : List ℕ} → Sized (matrix_words w) m → Sized (matrix_words w) (cleared w m)
-  sized_cleared {m} sm = record { size = length_cleared w m ∙ sm.size; words = words_cleared w m sm.words }
+  -- a matrix of that size without a pair, whatever stood there
+  cleared_none : (m : List ℕ) → length m ≡ matrix_words w → cleared w m ≡ none (matrix_words w)
+  unfolding cleared
+  cleared_none m size =
+      ext_get_or 0 (cleared w m) (none (matrix_words w))
+      (length_cleared w m ∙ size ∙ sym (length-replicate (matrix_words w) 0))
+      (λ k h. let l : k < length m = subst (λ (n : ℕ). k < n) (length_cleared w m) h in
+      changed_below (matrix_words w) (λ j x. 0) m k (subst (λ (n : ℕ). k < n) size l) l ∙ sym (get_or_none (matrix_words w) k))
 
   -- besides nothing
-  pub cleared_into : {m x : List ℕ} → Sized (matrix_words w) m → Sized (matrix_words w) x → merged w (cleared w m) x ≡ x
-  cleared_into {m} {x} sm sx =
-      same_marks (sized_joined (sized_cleared sm) sx) sx
-      (λ i j. merged_marks w (sized_cleared sm) sx i j ∙ ap (λ (k : ℕ). max k (marked w x i j)) (unmarked sm i j) ∙ zero-max (marked w x i j))
-    where
-      unmarked : {m : List ℕ} → Sized (matrix_words w) m → (i j : ℕ) → marked w (cleared w m) i j ≡ 0
-      unmarked {m} sm i j =
-          by_range j (label_ceiling w)
-          (λ l. by_range i (label_ceiling w) (λ h. marked_cleared w m (le_of_eq (sym sm.size)) i j h l)
-          (λ h. marked_beyond_label w (cleared w m) i j (le_of_eq (length_cleared w m ∙ sm.size)) h))
-          (λ l. marked_beyond_partner w (cleared w m) i j l)
+  pub cleared_into : (m : List ℕ) {x : List ℕ} → length m ≡ matrix_words w → Sized (matrix_words w) x → merged w (cleared w m) x ≡ x
+  cleared_into m {x} size sx =
+      ap (λ (c : List ℕ). merged w c x) (cleared_none m size)
+      ∙ same_marks (sized_joined (sized_none (matrix_words w)) sx) sx
+      (λ i j. merged_marks w (sized_none (matrix_words w)) sx i j
+      ∙ ap (λ (k : ℕ). max k (marked w x i j)) (marked_none w i j)
+      ∙ zero-max (marked w x i j))

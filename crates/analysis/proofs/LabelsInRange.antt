@@ -5,7 +5,7 @@ use Rattle.numbers.specs.Sizes.{Size, label_ceiling}
 use Rattle.recipe.specs.Tables.{Table, rows}
 use Rattle.recipe.specs.Rules.{IsAdmitted}
 use Rattle.recipe.specs.Statements.{statement_at}
-use Rattle.recipe.proofs.AloneLaws.{each_row}
+use Rattle.recipe.proofs.EachRow.{each_row}
 use Rattle.analysis.proofs.Meanings.{LabelsBelow}
 
 pub labels_in_range : (z : Size) (t : Table) → IsAdmitted z t → (i : ℕ) → i < rows t → LabelsBelow (label_ceiling z.words) (statement_at t i)

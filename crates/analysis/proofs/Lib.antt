@@ -5,11 +5,9 @@ pub mod Meanings
 pub mod Growth
 pub mod Bound
 pub mod Into
-pub mod LabelsInRange
 pub mod RowCases
-pub mod States
-pub mod TurnLaws
-pub mod SameLaws
+pub mod RoundLaws
 pub mod GoingLaws
+pub mod LabelsInRange
 pub mod ReplyLaws
 pub mod Unique

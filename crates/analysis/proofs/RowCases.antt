@@ -1,161 +1,129 @@
 -- A row's summary, kind by kind: the children's pairs are marked one after the other, which is marking the row's own all at once.
 -- Assumes nothing.
 use mathlib.Core.Path.{◌≡◌, refl, sym, ap, ap₂, ◌∙◌}
-use mathlib.Core.Logic.{◌⊎◌, inl, inr, ⊎_elim}
 use mathlib.Core.List.{List}
-use Prim.Native.Nat.{ℕ, zero, suc, ◌<◌}
+use Prim.Native.Nat.{ℕ, ◌<◌}
 use native.Mathlib.Omega.{arith}
-use lib.ListN.{length, get_or}
-use Rattle.numbers.specs.Sizes.{Size, matrix_words}
+use lib.ListN.{length}
+use Rattle.numbers.specs.Sizes.{Size, ours, matrix_words}
 use Rattle.labels.specs.Words.{Words}
 use Rattle.labels.specs.Sets.{none, single, union}
 use Rattle.matrix.specs.Matrix.{merged, crossed}
 use Rattle.matrix.specs.Inner.{cleared}
 use Rattle.calculus.specs.Syntax.{Stmt, skip, step, seq, loop, async, finish, call}
-use Rattle.recipe.specs.Inner.{rows_alone, OfAdmitted}
+use Rattle.recipe.specs.Rules.{IsAdmitted}
 use Rattle.recipe.specs.Statements.{statement_at}
-use Rattle.recipe.proofs.AloneLaws.{calls_below, first_smaller, second_smaller, loop_smaller, async_smaller, finish_smaller}
-use Rattle.recipe.proofs.AloneLaws.{alone_skip, alone_step, alone_seq, alone_loop, alone_async, alone_finish, alone_call}
-use Rattle.analysis.specs.Summaries.{WordSummary, empty_words, followed_words, looped_words, spawned_words, waited_words, words_of}
-use Rattle.analysis.specs.Inner.{Ready, marked_into, state_words, held_for, row_words}
+use Rattle.recipe.specs.Tables.{Table, Kind, kind_of, rows, kind_at, x_at, y_at, lists_of, procs}
+use Rattle.recipe.specs.Inner.{RightSizes}
+use Rattle.recipe.proofs.Admitted.{sizes_right_lem, seq_children, loop_child}
+use Rattle.recipe.proofs.EachRow.{calls_below}
+use Rattle.recipe.proofs.Readings.{statement_skip, statement_step, statement_seq, statement_loop, statement_async, statement_finish, statement_call}
+use Rattle.analysis.specs.Summaries.{WordSummary, followed_words, looped_words, spawned_words, waited_words, words_of}
+use Rattle.analysis.specs.declared.turn.Turn.{Turn}
+use Rattle.analysis.specs.declared.summary.Summary.{Summary}
+use Rattle.analysis.specs.Inner.{Whole, marked_into, held_for, row_words}
 use Rattle.analysis.proofs.Shape.{Sized, Shaped, by_parts, sized_joined, shaped_called}
 use Rattle.analysis.proofs.Into.{crossed_into, merged_into, self_into, none_into, cleared_into}
-use Rattle.analysis.proofs.States.{shaped_held}
 
-abbrev M : WordSummary → List ℕ
-M x = x.M
+module _ (z : Size) (t : Table) {held : List Summary} (ok : IsAdmitted z t) (state : Whole z held) (i : ℕ) (there : i < rows t) where
+  -- where every procedure has a whole summary, so has every row of an admitted table
+  pub shaped_row : Shaped z.words (row_words z.words t held i)
+  shaped_row =
+      shaped_called z.words (held_for held) (statement_at t i)
+      (λ f c. state.of f (calls_below z t ok i there f c))
 
-abbrev O : WordSummary → List ℕ
-O x = x.O
+  -- from nothing, what is marked besides is the statement's own
+  pub body_row :
+      {s : WordSummary} (m : List ℕ) → length m ≡ matrix_words z.words
+      → s ≡ marked_into z.words (cleared z.words m) (row_words z.words t held i) → s ≡ row_words z.words t held i
+  body_row m size e = e ∙ by_parts (cleared_into z.words m size shaped_row.M) refl refl
 
-abbrev L : WordSummary → List ℕ
-L x = x.L
+-- A row of an admitted table, worked out from whole summaries into a whole matrix.
+pub record Standing (z : Size) (t : Table) (pairs : List ℕ) (held : List Summary) (row : ℕ) : Type 0 where
+  pub ok : IsAdmitted z t
+  pub state : Whole z held
+  pub there : row < rows t
+  pub matrix : Sized (matrix_words z.words) pairs
 
--- from a whole state every row of an admitted table has a whole summary
-pub shaped_row :
-    {z : Size} {kinds xs ys held : List ℕ} → OfAdmitted z kinds xs ys → Sized (state_words z) held
-    → (i : ℕ) → i < length kinds → Shaped z.words (row_words z.words (rows_alone kinds xs ys) held i)
-shaped_row {z} {kinds} {xs} {ys} {held} table state i h =
-    shaped_called z.words (held_for z.words held) (statement_at (rows_alone kinds xs ys) i)
-    (λ f c. shaped_held z state f (calls_below table i h f c))
-
--- The kinds with one child: a loop, a side branch, a wait.
-abbrev pub Around : ℕ → Type 0
-Around k = (k ≡ 3) ⊎ ((k ≡ 4) ⊎ (k ≡ 5))
-
-pub one_child : (k : ℕ) → (k ≡ 0 → ⊥) → (k ≡ 1 → ⊥) → (k ≡ 2 → ⊥) → k < 6 → Around k
-one_child zero a b c h = absurd (a refl)
-one_child (suc zero) a b c h = absurd (b refl)
-one_child (suc (suc zero)) a b c h = absurd (c refl)
-one_child (suc (suc (suc zero))) a b c h = inl refl
-one_child (suc (suc (suc (suc zero)))) a b c h = inr (inl refl)
-one_child (suc (suc (suc (suc (suc zero))))) a b c h = inr (inr refl)
-one_child (suc (suc (suc (suc (suc (suc k)))))) a b c h = absurd (omega arith)
-
-pub child_smaller :
-    {z : Size} {kinds xs ys : List ℕ} → OfAdmitted z kinds xs ys → (row : ℕ) → row < length kinds → Around (get_or kinds row 0) → get_or xs row 0 < row
-child_smaller t row h = ⊎_elim (loop_smaller t row h) (⊎_elim (async_smaller t row h) (finish_smaller t row h))
-
--- What working out a row asks, and that the lent matrix and the state are words.
-pub record Standing (z : Size) (pairs kinds xs ys held : List ℕ) (row : ℕ) : Type 0 where
-  pub ready : Ready z pairs kinds xs ys held row
-  pub words_pairs : Words pairs
-  pub words_held : Words held
-
--- the same for another row, whatever has been marked meanwhile
-pub ready_for :
-    {z : Size} {pairs pairs' kinds xs ys held : List ℕ} {row : ℕ} → Ready z pairs kinds xs ys held row
-    → (i : ℕ) → i < length kinds → length pairs' ≡ length pairs → Ready z pairs' kinds xs ys held i
-ready_for r i there size = record { table = r.table; there = there; matrix = size ∙ r.matrix; state = r.state }
-
-module _ {z : Size} {pairs kinds xs ys held : List ℕ} {row : ℕ} (a : Standing z pairs kinds xs ys held row) where
+module _ {z : Size} {t : Table} {pairs : List ℕ} {held : List Summary} {row : ℕ} (a : Standing z t pairs held row) where
   abbrev w : ℕ
   w = z.words
 
   abbrev at : ℕ → Stmt
-  at = statement_at (rows_alone kinds xs ys)
+  at = statement_at t
 
   abbrev of : ℕ → WordSummary
-  of = row_words w (rows_alone kinds xs ys) held
+  of = row_words w t held
 
   abbrev x : ℕ
-  x = get_or xs row 0
+  x = x_at t row
 
   abbrev y : ℕ
-  y = get_or ys row 0
+  y = y_at t row
 
-  abbrev table : OfAdmitted z kinds xs ys
-  table = a.ready.table
-
-  abbrev there : row < length kinds
-  there = a.ready.there
-
-  whole : Sized (matrix_words w) pairs
-  whole = record { size = a.ready.matrix; words = a.words_pairs }
-
-  shaped_there : (i : ℕ) → i < length kinds → Shaped w (of i)
-  shaped_there = shaped_row table (record { size = a.ready.state; words = a.words_held })
+  abbrev Is : Kind → Type 0
+  Is k = kind_of (kind_at t row) ≡ k
 
   shaped_child : (i : ℕ) → i < row → Shaped w (of i)
-  shaped_child i h = shaped_there i (omega (arith, there))
+  shaped_child i h = shaped_row z t a.ok a.state i (omega (arith, a.there))
 
   -- ---- kind by kind
 
   module _ {s : WordSummary} where
-    by_statement : (u : Stmt) → at row ≡ u → s ≡ marked_into w pairs (words_of w (held_for w held) u) → s ≡ marked_into w pairs (of row)
-    by_statement u e h = h ∙ sym (ap (λ (v : Stmt). marked_into w pairs (words_of w (held_for w held) v)) e)
+    by_statement : (u : Stmt) → at row ≡ u → s ≡ marked_into w pairs (words_of w (held_for held) u) → s ≡ marked_into w pairs (of row)
+    by_statement u e h = h ∙ sym (ap (λ (v : Stmt). marked_into w pairs (words_of w (held_for held) v)) e)
 
-    pub skip_row :
-        get_or kinds row 0 ≡ 0 → s.M ≡ pairs → record { M = none (matrix_words w); O = s.O; L = s.L } ≡ empty_words w → s ≡ marked_into w pairs (of row)
-    skip_row k m e = by_statement skip (alone_skip table row there k) (by_parts (m ∙ sym (none_into w whole)) (ap O e) (ap L e))
+    pub skip_row : Is Kind.skip → s.M ≡ pairs → s.O ≡ none w → s.L ≡ none w → s ≡ marked_into w pairs (of row)
+    skip_row k m o l = by_statement skip (statement_skip z t a.ok row a.there k) (by_parts (m ∙ sym (none_into w a.matrix)) o l)
 
-    pub step_row_lem : get_or kinds row 0 ≡ 1 → s.M ≡ pairs → s.O ≡ none w → s.L ≡ single w x → s ≡ marked_into w pairs (of row)
-    step_row_lem k m o l = by_statement (step x) (alone_step table row there k) (by_parts (m ∙ sym (none_into w whole)) o l)
+    pub step_row_lem : Is Kind.step → s.M ≡ pairs → s.O ≡ none w → s.L ≡ single w x → s ≡ marked_into w pairs (of row)
+    step_row_lem k m o l = by_statement (step x) (statement_step z t a.ok row a.there k) (by_parts (m ∙ sym (none_into w a.matrix)) o l)
 
-    pub call_row_lem : get_or kinds row 0 ≡ 6 → s ≡ marked_into w pairs (held_for w held x) → s ≡ marked_into w pairs (of row)
-    call_row_lem k e = by_statement (call x) (alone_call table row there k) e
-
-    -- a body from nothing
-    pub body_row : {m : List ℕ} → m ≡ cleared w pairs → s ≡ marked_into w m (of row) → s ≡ of row
-    body_row {m} c e =
-        e
-        ∙ by_parts {x = marked_into w m (of row)}
-        (ap (λ (n : List ℕ). merged w n (of row).M) c ∙ cleared_into w whole (shaped_there row there).M) refl refl
+    pub call_row_lem : Is Kind.call → s ≡ marked_into w pairs (held_for held x) → s ≡ marked_into w pairs (of row)
+    call_row_lem k e = by_statement (call x) (statement_call z t a.ok row a.there k) e
 
     module _ {u : WordSummary} (p : u ≡ marked_into w pairs (of x)) where
       -- the second is marked besides the first, and what is joined has the pairs of both
       pub seq_row_lem :
-          {v : WordSummary} → get_or kinds row 0 ≡ 2 → v ≡ marked_into w u.M (of y)
+          {v : WordSummary} → Is Kind.seq → v ≡ marked_into w u.M (of y)
           → s ≡ followed_words w (record { M = v.M; O = u.O; L = u.L }) v → s ≡ marked_into w pairs (of row)
       seq_row_lem {v} k q e =
-          let X = shaped_child x (first_smaller table row there k) in
-          let Y = shaped_child y (second_smaller table row there k) in
-          by_statement (seq (at x) (at y)) (alone_seq table row there k)
+          let smaller = seq_children z t a.ok row a.there k in
+          let X = shaped_child x smaller.0 in
+          let Y = shaped_child y smaller.1 in
+          by_statement (seq (at x) (at y)) (statement_seq z t a.ok row a.there k)
           (e
           ∙ by_parts
-          (ap₂ (λ (c d : List ℕ). crossed w c d (merged w v.M v.M)) (ap O p) (ap L q)
+          (ap₂ (λ (c d : List ℕ). crossed w c d (merged w v.M v.M)) (ap (λ (r : WordSummary). r.O) p) (ap (λ (r : WordSummary). r.L) q)
           ∙ ap (crossed w (of x).O (of y).L)
-          (ap (λ (n : List ℕ). merged w n n) (ap M q ∙ ap (λ (n : List ℕ). merged w n (of y).M) (ap M p))
+          (ap (λ (n : List ℕ). merged w n n) (ap (λ (r : WordSummary). r.M) q ∙ ap (λ (r : WordSummary). merged w r.M (of y).M) p)
           ∙ self_into w (merged w (merged w pairs (of x).M) (of y).M)
-          ∙ merged_into w whole X.M Y.M)
-          ∙ crossed_into w X.O Y.L whole (sized_joined X.M Y.M))
-          (ap₂ (union w) (ap O p) (ap O q))
-          (ap₂ (union w) (ap L p) (ap L q)))
+          ∙ merged_into w a.matrix X.M Y.M)
+          ∙ crossed_into w X.O Y.L a.matrix (sized_joined X.M Y.M))
+          (ap₂ (λ (c d : WordSummary). union w c.O d.O) p q)
+          (ap₂ (λ (c d : WordSummary). union w c.L d.L) p q))
 
-      loop_row_lem : get_or kinds row 0 ≡ 3 → s ≡ looped_words w u → s ≡ marked_into w pairs (of row)
+      pub loop_row_lem : Is Kind.loop → s ≡ looped_words w u → s ≡ marked_into w pairs (of row)
       loop_row_lem k e =
-          let X = shaped_child x (loop_smaller table row there k) in
-          by_statement (loop (at x)) (alone_loop table row there k)
-          (e ∙ ap (looped_words w) p ∙ by_parts (crossed_into w X.O X.L whole X.M) refl refl)
+          let X = shaped_child x (loop_child z t a.ok row a.there k) in
+          by_statement (loop (at x)) (statement_loop z t a.ok row a.there k) (e ∙ ap (looped_words w) p ∙ by_parts (crossed_into w X.O X.L a.matrix X.M) refl refl)
 
-      async_row_lem : get_or kinds row 0 ≡ 4 → s ≡ spawned_words u → s ≡ marked_into w pairs (of row)
-      async_row_lem k e = by_statement (async (at x)) (alone_async table row there k) (e ∙ ap spawned_words p)
+      pub async_row_lem : Is Kind.async → s ≡ spawned_words u → s ≡ marked_into w pairs (of row)
+      async_row_lem k e = by_statement (async (at x)) (statement_async z t a.ok row a.there k) (e ∙ ap spawned_words p)
 
-      finish_row : get_or kinds row 0 ≡ 5 → s ≡ waited_words w u → s ≡ marked_into w pairs (of row)
-      finish_row k e = by_statement (finish (at x)) (alone_finish table row there k) (e ∙ ap (waited_words w) p)
+      pub finish_row_lem : Is Kind.finish → s ≡ waited_words w u → s ≡ marked_into w pairs (of row)
+      finish_row_lem k e = by_statement (finish (at x)) (statement_finish z t a.ok row a.there k) (e ∙ ap (waited_words w) p)
 
-      pub around_row :
-          Around (get_or kinds row 0) → (get_or kinds row 0 ≡ 3 → s ≡ looped_words w u) → (get_or kinds row 0 ≡ 4 → s ≡ spawned_words u)
-          → (get_or kinds row 0 ≡ 5 → s ≡ waited_words w u) → s ≡ marked_into w pairs (of row)
-      around_row k loops spawns waits =
-          ⊎_elim (λ e. loop_row_lem e (loops e)) (⊎_elim (λ e. async_row_lem e (spawns e)) (λ e. finish_row e (waits e))) k
+-- ---- the table that a round works on
+
+abbrev pub on : Turn → Table
+on u = lists_of u.recipe.now.table
+
+pub right_sizes : (u : Turn) → RightSizes ours (rows (on u)) (length (on u).xs) (length (on u).ys) (procs (on u))
+right_sizes u = sizes_right_lem ours (on u) u.recipe.now.admitted
+
+pub standing :
+    (u : Turn) {pairs : List ℕ} {row : ℕ} → row < rows (on u) → length pairs ≡ matrix_words ours.words → Words pairs
+    → Standing ours (on u) pairs u.held.now row
+standing u there size words =
+    record { ok = u.recipe.now.admitted; state = u.whole; there = there; matrix = record { size = size; words = words } }

@@ -4,9 +4,8 @@ use mathlib.Core.Path.{◌≡◌, refl, ◌∙◌}
 use mathlib.Core.Logic.{inl, inr}
 use mathlib.Core.List.{List}
 use Prim.Native.Nat.{ℕ, zero, suc}
-use lib.ListN.{length, length-replicate}
+use lib.ListN.{length-replicate}
 use Rattle.numbers.specs.Sizes.{matrix_words}
-use Rattle.labels.specs.Words.{Words}
 use Rattle.labels.specs.Sets.{none, single, joined}
 use Rattle.labels.proofs.SetLaws.{length_joined, words_joined, words_none, length_single, words_single}
 use Rattle.matrix.specs.Matrix.{crossed}
@@ -15,17 +14,7 @@ use Rattle.calculus.specs.Syntax.{Stmt, skip, step, seq, loop, async, finish, ca
 use Rattle.calculus.specs.Calls.{CallsIn}
 use Rattle.analysis.specs.Summaries.{WordSummary, empty_words, words_of}
 use Rattle.analysis.specs.Rounds.{after}
-
--- n words.
-pub record Sized (n : ℕ) (s : List ℕ) : Type 0 where
-  pub size : length s ≡ n
-  pub words : Words s
-
--- A summary of a whole matrix and w words a set.
-pub record Shaped (w : ℕ) (x : WordSummary) : Type 0 where
-  pub M : Sized (matrix_words w) x.M
-  pub O : Sized w x.O
-  pub L : Sized w x.L
+pub use Rattle.analysis.specs.Inner.{Sized, Shaped}
 
 -- a summary is its three parts
 pub by_parts : {x y : WordSummary} → x.M ≡ y.M → x.O ≡ y.O → x.L ≡ y.L → x ≡ y

@@ -1,17 +1,29 @@
-// The labels that may still run when a statement has completed, and the labels that run in it.
+// What a statement does, in words: the pairs of labels that may run together in it, the labels that may still run when it has completed, and
+// the labels that run in it.
 ghost use Rattle.std.specs.Prelude.{◌≡◌, ◌∷◌, []};
 ghost use Rattle.numbers.specs.Sizes.{ours, matrix_words};
 ghost use Rattle.labels.specs.Sets.{none, single, union};
 ghost use Rattle.analysis.specs.Summaries.{empty_words};
 ghost use Rattle.analysis.specs.Inner.{summary_words};
 
-use labels::Label;
+use labels::{Label, Member};
+use numbers::MATRIX_WORDS;
 
-// O, what may still run, and L, what runs: each a set of labels as one word. The pairs, M, stand in a lent matrix.
-#[derive(Clone, Copy)]
+// O, what may still run, and L, what runs: each a set of labels as one word. The pairs, M, stand in a matrix beside it.
+#[derive(Clone, Copy, PartialEq, Eq)]
 pub struct LabelSummary {
     pub o: u64,
     pub l: u64,
+}
+
+// M, the pairs of labels that may run together, as a matrix.
+pub(crate) type Pairs = [u64; MATRIX_WORDS];
+
+// The summary of a procedure: its pairs, and its labels.
+#[derive(Clone, Copy, PartialEq, Eq)]
+pub struct Summary {
+    pub pairs: Pairs,
+    pub labels: LabelSummary,
 }
 
 impl LabelSummary {

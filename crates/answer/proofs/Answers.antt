@@ -3,12 +3,12 @@
 use mathlib.Core.Path.{◌≡◌, ap, ◌∙◌}
 use mathlib.Core.List.{List}
 use Prim.Native.Nat.{ℕ}
+use Rattle.std.specs.Prelude.{Err}
 use Rattle.numbers.specs.Sizes.{Size, row_ceiling}
 use Rattle.numbers.specs.declared.Refusal.{Refusal}
 use Rattle.recipe.specs.Records.{table_of_rows}
 use Rattle.recipe.specs.Rules.{judged, IsAdmitted}
 use Rattle.recipe.specs.Statements.{program_of}
-use Rattle.recipe.specs.declared.Judged.TheVariants.{Refused}
 use Rattle.recipe.specs.declared.Row.{Row}
 use Rattle.table.specs.Reading.{table, refused}
 use Rattle.sheet.specs.Reading.{read_sheet}
@@ -23,7 +23,7 @@ module _ (z : Size) (sheet : List ℕ) where
 
   module _ {rows : List Row} {roots : List ℕ} (read : read_sheet z row_ceiling z.procs sheet ≡ table rows roots) where
     -- The judge refuses the table that was read.
-    pub answer_judged : {r : Refusal} → judged z (table_of_rows rows roots) ≡ Refused r → answer_to z sheet ≡ refusal_line r
+    pub answer_judged : {r : Refusal} → judged z (table_of_rows rows roots) ≡ Err r → answer_to z sheet ≡ refusal_line r
     unfolding answer_to
     answer_judged e = ap (answer_to_reading z) read ∙ ap (answer_by z (table_of_rows rows roots)) e
 

@@ -1,5 +1,4 @@
 pub mod LineLaws
-pub mod ReplyLaws
 pub mod ReadLaws
 pub mod Answers
 pub mod Places

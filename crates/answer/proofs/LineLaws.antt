@@ -2,12 +2,13 @@
 -- Assumes nothing.
 use mathlib.Core.Path.{◌≡◌}
 use mathlib.Core.List.{List, [], ◌∷◌}
-use Prim.Native.Nat.{ℕ, ◌+◌}
+use Prim.Native.Nat.{ℕ, ◌+◌, ◌^◌, ◌≤◌, ◌<◌}
 use native.Mathlib.Omega.{arith}
 use lib.ListN.{length}
 use Rattle.text.specs.Bytes.{ascii, tab, newline}
 use Rattle.text.specs.Numbers.{spelled}
 use Rattle.text.specs.Inner.{Put}
+use Rattle.text.proofs.SpelledLaws.{spelled_short}
 use Rattle.text.proofs.LineLaws.{ended, length_ended, length_first, put_first}
 use Rattle.answer.specs.Answer.{refused_line}
 
@@ -27,3 +28,7 @@ module _ (n p : ℕ) where
       → Put c behind (ended (spelled p) newline) d end → Put a at (refused_line n p) d end
   unfolding refused_line
   put_refused x y z = put_first (ascii "refused") (spelled n) (spelled p ∷ []) x (put_first (spelled n) (spelled p) [] y z)
+
+-- Numbers of 32 bits have ten digits at most.
+pub refused_short : (n p : ℕ) → n < 2 ^ 32 → p < 2 ^ 32 → length (refused_line n p) ≤ 30
+refused_short n p h l = omega (arith, length_refused n p, spelled_short 9 n (omega arith), spelled_short 9 p (omega arith))

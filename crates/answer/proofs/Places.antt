@@ -8,14 +8,14 @@ use native.Mathlib.Omega.{arith}
 use borrow.Author.Tests.{ltb-true}
 use lib.Dec.{leb, ltb}
 use lib.ListN.{length, length-append}
+use Rattle.std.specs.Prelude.{Result, Ok, Err}
 use Rattle.numbers.specs.General.{lowest}
 use Rattle.numbers.specs.Refusals.{refusal_place}
 use Rattle.numbers.specs.Sizes.{Size, row_ceiling, sheet_ceiling}
+use Rattle.numbers.specs.declared.Refusal.{Refusal}
 use Rattle.numbers.specs.declared.Refusal.TheVariants.{LongSheet}
 use Rattle.recipe.specs.Rules.{Rule, rules_of, judged_by, judged}
 use Rattle.recipe.specs.Tables.{Table, rows, procs}
-use Rattle.recipe.specs.declared.Judged.{Judged}
-use Rattle.recipe.specs.declared.Judged.TheVariants.{Admitted, Refused}
 use Rattle.recipe.specs.declared.Row.{Row}
 use Rattle.table.specs.Reading.{Reading, table, refused}
 use Rattle.sheet.specs.Form.{Every}
@@ -65,9 +65,9 @@ line_within z rowsLent rootsLent bytes = by_size (min row_ceiling rowsLent) (min
 -- ---- the judge
 
 -- A refusal by the judge names a place within b.
-abbrev pub JudgedWithin : ℕ → Judged → Type 0
-JudgedWithin b Admitted = Unit
-JudgedWithin b (Refused why) = refusal_place why ≤ b
+abbrev pub JudgedWithin : ℕ → Result Unit Refusal → Type 0
+JudgedWithin b (Ok admitted) = Unit
+JudgedWithin b (Err why) = refusal_place why ≤ b
 
 -- Where a rule is broken, it names a place within b.
 abbrev NamesWithin : ℕ → Rule → Type 0
@@ -80,7 +80,7 @@ rules_within b (r ∷ more) names = by_test (lowest r.places r.breaks) (rules_wi
   where
     by_test :
         (place : ℕ) → JudgedWithin b (judged_by more) → (broken : Bool) → ltb place r.places ≡ broken
-        → JudgedWithin b (cond broken (Refused (r.refusal place)) (judged_by more))
+        → JudgedWithin b (cond broken (Err (r.refusal place)) (judged_by more))
     by_test place later true e = names.0 place (ltb-true place r.places e)
     by_test place later false e = later
 

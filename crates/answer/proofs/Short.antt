@@ -7,6 +7,7 @@ use native.Mathlib.Nat.{le_trans}
 use native.Mathlib.Omega.{arith}
 use lib.Dec.{lit<}
 use lib.ListN.{length, length-map}
+use Rattle.std.specs.Prelude.{Result, Ok, Err}
 use Rattle.numbers.specs.General.{laid}
 use Rattle.numbers.specs.Refusals.{refusal_number, refusal_place}
 use Rattle.numbers.specs.Sizes.{ours, row_ceiling}
@@ -16,16 +17,12 @@ use Rattle.text.proofs.SpelledLaws.{spelled_short, spelled_four}
 use Rattle.recipe.specs.Records.{table_of_rows}
 use Rattle.recipe.specs.Rules.{judged}
 use Rattle.recipe.specs.Tables.{Table, rows, procs}
-use Rattle.recipe.specs.declared.Judged.{Judged}
-use Rattle.recipe.specs.declared.Judged.TheVariants.{Admitted, Refused}
 use Rattle.recipe.specs.declared.Row.{Row}
 use Rattle.table.specs.Reading.{Reading, table, refused}
 use Rattle.sheet.specs.Reading.{read_sheet}
 use Rattle.sheet.proofs.SheetForms.{InRoom, sheet_within}
 use Rattle.listing.specs.Listing.{longest_listing}
 use Rattle.listing.specs.Replies.{fitted, held_after}
-use Rattle.listing.specs.declared.Listed.{Listed}
-use Rattle.listing.specs.declared.Listed.TheVariants as reply
 use Rattle.listing.proofs.ReplyLaws.{fits}
 use Rattle.listing.proofs.Sizes.{recipe_listing_short}
 use Rattle.answer.specs.Answer.{refusal_line, answer_by, answer_to_reading, answer_to, Answered}
@@ -61,10 +58,10 @@ line_short r h =
     )
 
 judged_short :
-    (t : Table) (j : Judged) → judged ours t ≡ j → rows t + procs t ≤ place_ceiling → JudgedWithin (rows t + procs t) j
+    (t : Table) (j : Result Unit Refusal) → judged ours t ≡ j → rows t + procs t ≤ place_ceiling → JudgedWithin (rows t + procs t) j
     → length (answer_by ours t j) ≤ longest_listing
-judged_short t Admitted e h p = recipe_listing_short t e
-judged_short t (Refused r) e h p = line_short r (le_trans p h)
+judged_short t (Ok admitted) e h p = recipe_listing_short t e
+judged_short t (Err r) e h p = line_short r (le_trans p h)
 
 reading_short : (w : Reading) → InRoom row_ceiling ours.procs w → ReadWithin place_ceiling w → length (answer_to_reading ours w) ≤ longest_listing
 reading_short (table rows roots) few p =
@@ -80,13 +77,13 @@ answer_short sheet =
 
 -- Who lends room for the longest listing is never refused.
 pub answer_whole :
-    (sheet : List ℕ) (room : ℕ) → longest_listing ≤ room → fitted (answer_to ours sheet) room ≡ reply.Length (length (answer_to ours sheet))
+    (sheet : List ℕ) (room : ℕ) → longest_listing ≤ room → fitted (answer_to ours sheet) room ≡ Ok (length (answer_to ours sheet))
 answer_whole sheet room h = sym (fits (answer_to ours sheet) room (le_trans (answer_short sheet) h))
 
 -- With that room the reply is the answer's length, and the answer stands at the front of the bytes.
 pub answer_stands :
-    (sheet old : List ℕ) {r : Listed} {new : List ℕ} → longest_listing ≤ length old → Answered (answer_to ours sheet) old r new
-    → (r ≡ reply.Length (length (answer_to ours sheet))) × (new ≡ laid (answer_to ours sheet) old)
+    (sheet old : List ℕ) {r : Result ℕ Refusal} {new : List ℕ} → longest_listing ≤ length old → Answered (answer_to ours sheet) old r new
+    → (r ≡ Ok (length (answer_to ours sheet))) × (new ≡ laid (answer_to ours sheet) old)
 answer_stands sheet old h a =
     let said = a.said ∙ answer_whole sheet (length old) h in
     (said, a.held ∙ ap (held_after (laid (answer_to ours sheet) old) old) said)

@@ -1,5 +1,5 @@
 -- The text that answers a sheet: the listing of its recipe, or the line of a refusal.
-use Rattle.std.specs.Prelude.{◌≡◌, List, [], ◌∷◌, ℕ, length}
+use Rattle.std.specs.Prelude.{◌≡◌, List, [], ◌∷◌, ℕ, length, Result, Ok, Err}
 use Rattle.numbers.specs.General.{laid}
 use Rattle.numbers.specs.Refusals.{refusal_number, refusal_place}
 use Rattle.numbers.specs.Sizes.{Size, row_ceiling}
@@ -11,12 +11,9 @@ use Rattle.recipe.specs.Records.{table_of_rows}
 use Rattle.recipe.specs.Rules.{judged}
 use Rattle.recipe.specs.Statements.{program_of}
 use Rattle.recipe.specs.Tables.{Table}
-use Rattle.recipe.specs.declared.Judged.{Judged}
-use Rattle.recipe.specs.declared.Judged.TheVariants.{Admitted, Refused}
 use Rattle.table.specs.Reading.{Reading, table, refused}
 use Rattle.sheet.specs.Reading.{read_sheet}
 use Rattle.listing.specs.Replies.{listing_of, fitted, held_after}
-use Rattle.listing.specs.declared.Listed.{Listed}
 
 -- The line that tells a number and a place of refusal.
 unfoldable pub refused_line : ℕ → ℕ → List ℕ
@@ -27,9 +24,9 @@ abbrev pub refusal_line : Refusal → List ℕ
 refusal_line r = refused_line (refusal_number r) (refusal_place r)
 
 -- The text that answers a table of which the judge says this: the listing, or the line of the refusal.
-abbrev pub answer_by : Size → Table → Judged → List ℕ
-answer_by z t Admitted = listing_of z (program_of t)
-answer_by z t (Refused r) = refusal_line r
+abbrev pub answer_by : Size → Table → Result Unit Refusal → List ℕ
+answer_by z t (Ok admitted) = listing_of z (program_of t)
+answer_by z t (Err r) = refusal_line r
 
 -- The text that answers a table.
 abbrev pub answer_to_table : Size → Table → List ℕ
@@ -46,6 +43,6 @@ answer_to z sheet = answer_to_reading z (read_sheet z row_ceiling z.procs sheet)
 
 -- A text as an answer in lent bytes: it is laid at their front, and its length is the reply. Where it does not fit, the reply
 -- says so, and the bytes are as they were.
-pub record Answered (text old : List ℕ) (reply : Listed) (new : List ℕ) : Type 0 where
+pub record Answered (text old : List ℕ) (reply : Result ℕ Refusal) (new : List ℕ) : Type 0 where
   pub said : reply ≡ fitted text (length old)
   pub held : new ≡ held_after (laid text old) old reply

@@ -1,22 +1,25 @@
 -- A set of procedures as a word: its bits say which procedures a statement calls, and, closed, which a procedure reaches.
 -- Assumes nothing.
 use mathlib.Core.Path.{◌≡◌, refl, sym, ap, ap₂, ◌∙◌, subst}
-use mathlib.Core.Bool.{Bool, true, false, not, ◌&&◌, ◌||◌, and_self}
-use mathlib.Core.List.{List}
+use mathlib.Core.Bool.{Bool, true, false, not, ◌&&◌, ◌||◌, and_self, true≢false, cond}
+use mathlib.Core.List.{List, [], ◌∷◌}
 use Prim.Native.Nat.{ℕ, zero, suc, ◌+◌, ◌*◌, ◌≤◌, ◌<◌, min, max}
-use native.Mathlib.Nat.{le_refl}
+use native.Mathlib.Nat.{le_refl, zero-mul, one-mul}
 use native.Mathlib.Numerals.{add-one}
 use native.Mathlib.Omega.{arith}
 use lib.Bits.{bit_and, bit_or}
 use lib.Dec.{eqb}
 use lib.ListN.{length, get_or}
 use borrow.Author.Tests.{ne_eqb}
-use Rattle.numbers.proofs.EveryLaws.{every_alike}
+use Rattle.numbers.proofs.EveryLaws.{every_alike, every_next, every_passes}
 use Rattle.calculus.specs.Syntax.{Stmt, skip, step, seq, loop, async, finish, call, Program, body}
 use Rattle.labels.specs.Words.{bit}
 use Rattle.labels.proofs.BitLaws.{bit_lt, bit_of_zero, bit_of_or, bit_of_and, bit_times, bit_of_power}
 use Rattle.labels.proofs.ChangedLaws.{length_changed, changed_below}
+use Rattle.labels.proofs.OneWord.{member_one}
+use Rattle.labels.specs.Sets.{member}
 use Rattle.numbers.specs.General.{one_if, every}
+use Rattle.numbers.specs.Sizes.{ours, label_ceiling}
 use Rattle.calls.specs.Inner.{calls_of, direct_calls, through_also, closed_below, none_in_both}
 use Rattle.calls.specs.Reached.{calling, reached, wide}
 
@@ -35,6 +38,36 @@ min_and false false = refl
 none_is_not : (b : Bool) → eqb (one_if b) 0 ≡ not b
 none_is_not true = refl
 none_is_not false = refl
+
+-- A test that fails somewhere below n does not pass everywhere.
+pub fails_every : (test : ℕ → Bool) (n k : ℕ) → k < n → test k ≡ false → every n test ≡ false
+fails_every test n k h e = go (every n test) refl
+  where
+    go : (b : Bool) → every n test ≡ b → b ≡ false
+    go false f = refl
+    go true f = absurd (true≢false (sym (every_passes test n f k h) ∙ e))
+
+-- One place more at which it passes.
+pub every_more : (test : ℕ → Bool) (n : ℕ) → every n test ≡ true → test n ≡ true → every (n + 1) test ≡ true
+every_more test n e f = ap (λ (k : ℕ). every k test) (add-one n) ∙ every_next test n ∙ ap₂ ◌&&◌ e f
+
+-- Whether a procedure is in no set, as a test of its bit.
+pub unset : (x l : ℕ) → l < label_ceiling ours.words → eqb (bit x l) 0 ≡ not (eqb (member (x ∷ []) l) 1)
+unset x l h = go (bit x l) (bit_lt x l) ∙ ap (λ (b : ℕ). not (eqb b 1)) (sym (member_one x l h))
+  where
+    go : (b : ℕ) → b < 2 → eqb b 0 ≡ not (eqb b 1)
+    go zero h = refl
+    go (suc zero) h = refl
+    go (suc (suc b)) h = absurd (omega arith)
+
+-- What is joined to a set that k is in.
+pub joined_if : (x l via : ℕ) → l < label_ceiling ours.words → cond (eqb (member (x ∷ []) l) 1) via 0 ≡ bit x l * via
+joined_if x l via h = ap (λ (b : ℕ). cond (eqb b 1) via 0) (member_one x l h) ∙ go (bit x l) (bit_lt x l)
+  where
+    go : (b : ℕ) → b < 2 → cond (eqb b 1) via 0 ≡ b * via
+    go zero h = sym (zero-mul via)
+    go (suc zero) h = sym (one-mul via)
+    go (suc (suc b)) h = absurd (omega arith)
 
 -- one procedure more
 pub closed_more : (n k : ℕ) (sets : List ℕ) → through_also n k (closed_below n k sets) ≡ closed_below n (k + 1) sets

@@ -7,6 +7,7 @@ use Prim.Native.Nat.{ℕ}
 use native.Mathlib.Omega.{arith}
 use lib.ListN.{length, get_or}
 use lib.Seq.{drop-nil}
+use Rattle.std.specs.Prelude.{Result, Ok, Err}
 use Rattle.numbers.specs.General.{laid}
 use Rattle.numbers.specs.Sizes.{ours, row_ceiling}
 use Rattle.numbers.specs.declared.Refusal.{Refusal}
@@ -16,15 +17,12 @@ use Rattle.calculus.specs.Enabled.{MayMeet}
 use Rattle.recipe.specs.Records.{table_of_rows}
 use Rattle.recipe.specs.Rules.{judged}
 use Rattle.recipe.specs.Statements.{program_of}
-use Rattle.recipe.specs.declared.Judged.{Judged}
-use Rattle.recipe.specs.declared.Judged.TheVariants.{Admitted, Refused}
 use Rattle.recipe.specs.declared.Row.{Row}
 use Rattle.table.specs.Reading.{Reading, table, refused}
 use Rattle.sheet.specs.Reading.{read_sheet}
 use Rattle.analysis.specs.Replies.{main_pairs}
 use Rattle.listing.specs.Listing.{opening}
 use Rattle.listing.specs.Replies.{held_after}
-use Rattle.listing.specs.declared.Listed.TheVariants as listing
 use Rattle.answer.specs.Answer.{refused_line, refusal_line, answer_to}
 use Rattle.answer.proofs.Answers.{answer_refused, answer_judged, answer_listed}
 use Rattle.answer.proofs.answer.Reads.{Post as answer-post}
@@ -50,8 +48,8 @@ module _ (sheet b : List ℕ) where
     where
       by_judge :
           (rows : List Row) (roots : List ℕ) → read_sheet ours row_ceiling ours.procs sheet ≡ table rows roots
-          → (j : Judged) → judged ours (table_of_rows rows roots) ≡ j → ExactRecipe sheet
-      by_judge rows roots e Admitted ok =
+          → (j : Result Unit Refusal) → judged ours (table_of_rows rows roots) ≡ j → ExactRecipe sheet
+      by_judge rows roots e (Ok _) ok =
           record {
             rows = rows;
             roots = roots;
@@ -59,7 +57,7 @@ module _ (sheet b : List ℕ) where
             ok = ok;
             acyclic = (listing_exactly (program_of (table_of_rows rows roots)) b).0 (as_text (answer_listed ours sheet e ok) says);
           }
-      by_judge rows roots e (Refused r) why = absurd (refusal_not_exact r b (as_text (answer_judged ours sheet e why) says))
+      by_judge rows roots e (Err r) why = absurd (refusal_not_exact r b (as_text (answer_judged ours sheet e why) says))
 
       by_reading : (w : Reading) → read_sheet ours row_ceiling ours.procs sheet ≡ w → ExactRecipe sheet
       by_reading (table rows roots) e = by_judge rows roots e (judged ours (table_of_rows rows roots)) refl
@@ -78,7 +76,7 @@ answer_text_exact sheet =
     (exact_recipe sheet [], recipe_exact sheet [])
 
 -- and so do the bytes after whatever meets the contract of `answer` and replies a length
-pub answer_exact : (κs a r s : _) → answer-post κs a r s → (n : ℕ) → r ≡ listing.Length n → SaysExact s.1.0.now ↔ ExactRecipe a.0.now
+pub answer_exact : (κs a r s : _) → answer-post κs a r s → (n : ℕ) → r ≡ Ok n → SaysExact s.1.0.now ↔ ExactRecipe a.0.now
 answer_exact κs a r s met n done =
     subst (λ (x : List ℕ). SaysExact x ↔ ExactRecipe a.0.now)
     (sym (met.held ∙ ap (held_after (laid (answer_to ours a.0.now) a.1.0.now) a.1.0.now) done))

@@ -9,6 +9,7 @@ use native.Mathlib.Numerals.{unary_clauses}
 use native.Mathlib.Decide.{dec_lt}
 use native.Mathlib.Omega.{arith}
 use lib.ListN.{length, get_or-eq_default}
+use Rattle.std.specs.Prelude.{Ok}
 use Rattle.numbers.specs.General.{lowest, laid}
 use Rattle.numbers.specs.Sizes.{Size, label_ceiling}
 use Rattle.numbers.proofs.LowestLaws.{none_below, lowest_within, lowest_passes}
@@ -144,6 +145,6 @@ module _ (z : Size) (t : Table) (ok : IsAdmitted z t) where
 
 -- demand 3: it is admitted and has no self-calls from main on, so each marked pair is enabled at two different places in some reached state
 pub demand_3_exact :
-    (z : Size) (t : Table) {i j : ℕ} → verdict_on z t ≡ verdict.Exact → marked z.words (main_pairs z.words (program_of t)) i j ≡ 1
+    (z : Size) (t : Table) {i j : ℕ} → verdict_on z t ≡ Ok verdict.Exact → marked z.words (main_pairs z.words (program_of t)) i j ≡ 1
     → MayMeet (program_of t) (body (program_of t) 0) i j
 demand_3_exact z t e = let ok = exact_admitted z t e in demand_3_met z t ok ((exact_exactly z t ok).0 e)

@@ -7,6 +7,7 @@ use mathlib.Core.Logic.{inl, inr}
 use Prim.Native.Nat.{ℕ, zero, suc, ◌+◌, ◌-◌, ◌^◌, ◌≤◌, ◌<◌}
 use native.Mathlib.Omega.{arith}
 use lib.ListN.{length, length-append, replicate}
+use Rattle.std.specs.Prelude.{Err}
 use Rattle.numbers.specs.General.{in_turn, sum_below, lowest}
 use Rattle.numbers.specs.Sizes.{ours, word_bits, matrix_words}
 use Rattle.numbers.specs.declared.Refusal.TheVariants.{ShortBytes}
@@ -31,7 +32,6 @@ use Rattle.analysis.specs.Replies.{rounds, main_pairs}
 use Rattle.listing.specs.Pairs.{pair_at, pairs}
 use Rattle.listing.specs.Listing.{opening, pair_line, lines, listing, longest_listing}
 use Rattle.listing.specs.Replies.{listing_of, listed_as, listed}
-use Rattle.listing.specs.declared.Listed.TheVariants as reply
 use Rattle.listing.proofs.LineLaws.{length_opening}
 use Rattle.listing.proofs.ReplyLaws.{too_long_lem}
 use Rattle.listing.proofs.Sizes.{rounds_few}
@@ -174,7 +174,7 @@ pub longest_listing_there_is : IsAdmitted ours long_recipe × (length (listing_o
 longest_listing_there_is = (long_admitted, rw long_read long_length)
 
 pub longest_listing_needs_its_room :
-    (words room : ℕ) → matrix_words w ≤ words → room < longest_listing → listed ours long_recipe words room ≡ reply.Refused ShortBytes
+    (words room : ℕ) → matrix_words w ≤ words → room < longest_listing → listed ours long_recipe words room ≡ Err ShortBytes
 unfolding listed
 longest_listing_needs_its_room words room whole short =
     ap (listed_as ours (program_of long_recipe) room) (admitted_still ours long_recipe words long_admitted whole)

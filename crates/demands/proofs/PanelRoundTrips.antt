@@ -11,17 +11,16 @@ use Rattle.recipe.specs.Tables.{Table, table_of, rows, procs}
 use Rattle.recipe.specs.declared.Row.{Row}
 use Rattle.table.specs.Reading.{Reading, table, rows_of, roots_of, reply_of, row_places}
 use Rattle.table.proofs.CopiedTable.{same_table}
-use Rattle.table.proofs.Replies.{table_of_lem}
 use Rattle.sheet.specs.Reading.{read_sheet, read_into}
 use Rattle.records.specs.Records.{read_records}
 use Rattle.writer.specs.Replies.{written, bytes_written}
-use Rattle.panel.specs.Codes.{number_unit, procs_unit, read_code, written_code}
+use Rattle.panel.specs.Codes.{number_unit, procs_unit, read_code, reply_code}
 use Rattle.panel.proofs.ReadBack.{stored_of_code}
 use Rattle.panel.proofs.Unique as panel
 use Rattle.panel.proofs.WrittenBack.{length_of_code}
 use Rattle.panel.proofs.bushkalote_read_sheet.Reads.{Post as c-read-sheet-post}
 use Rattle.panel.proofs.bushkalote_write_sheet.Reads.{Post as c-write-sheet-post}
-use Rattle.demands.proofs.RoundTrips.{in_front, reads_back, fields_back, writes_back, written_rows_are_read, read_rows_are_written}
+use Rattle.demands.proofs.RoundTrips.{in_front, stored_of, reads_back, fields_back, writes_back, written_rows_are_read, read_rows_are_written}
 
 -- ---- plain slices
 
@@ -74,7 +73,7 @@ module _
     w = read_into ours a.0.now a.1.0.now a.1.1.0.now a.1.1.1.0.now a.1.1.1.1.0.now
 
     stored : (w ≡ table (rows_of w) (roots_of w)) × (length (rows_of w) ≡ k % procs_unit) × (length (roots_of w) ≡ k / procs_unit)
-    stored = table_of_lem w (k % procs_unit) (k / procs_unit) (stored_of_code _ _ a.0.now k took.0 done)
+    stored = stored_of w (k % procs_unit) (k / procs_unit) (stored_of_code _ _ a.0.now k took.0 done)
 
     same : table_of a'.0.now a'.1.0.now a'.1.1.0.now a'.1.1.1.0.now ≡ table_of_rows (rows_of w) (roots_of w)
     same =
@@ -90,7 +89,7 @@ module _
         → (n ≡ length a.0.now) × (s'.1.1.1.1.0.now ≡ laid a.0.now a'.1.1.1.1.0.now)
     c_read_is_written h =
         let back = writes_back _ _ a.0.now a'.1.1.1.1.0.now (rows_of w) (roots_of w) stored.0 h in (
-          wrote.0 ∙ ap (λ (u : Table). written_code (written ours u (length a'.1.1.1.1.0.now))) same ∙ ap written_code back.0,
+          wrote.0 ∙ ap (λ (u : Table). reply_code (written ours u (length a'.1.1.1.1.0.now))) same ∙ ap reply_code back.0,
           wrote.1 ∙ ap (λ (u : Table). bytes_written ours u a'.1.1.1.1.0.now) same ∙ back.1,
         )
 
@@ -119,4 +118,4 @@ c_read_rows_are_written bytes old oldRoots k new newRoots b n b' took done wrote
     read_rows_are_written bytes old oldRoots (k % procs_unit) (k / procs_unit) new newRoots b
     (written ours (table_of_rows (take (k % procs_unit) new) (take (k / procs_unit) newRoots)) (length b)) b' (sym told, took.1, took.2)
     (refl, wrote.1) h
-    in (wrote.0 ∙ ap written_code back.0, back.1)
+    in (wrote.0 ∙ ap reply_code back.0, back.1)

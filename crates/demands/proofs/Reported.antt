@@ -11,7 +11,9 @@ use native.Mathlib.Nat.{le_of_eq}
 use native.Mathlib.Omega.{arith}
 use lib.ListN.{length, get_or, drop, length-append, length-drop}
 use lib.Seq.{get_or-append-add, get_or-drop}
+use Rattle.std.specs.Prelude.{Result, Ok}
 use Rattle.numbers.specs.General.{laid}
+use Rattle.numbers.specs.declared.Refusal.{Refusal}
 use Rattle.numbers.specs.Sizes.{ours, label_ceiling, matrix_words}
 use Rattle.labels.specs.Words.{bit}
 use Rattle.matrix.specs.Matrix.{marked}
@@ -25,15 +27,13 @@ use Rattle.calculus.specs.Calls.{NoSelfCall}
 use Rattle.calculus.proofs.Theorems as calculus
 use Rattle.recipe.specs.Rules.{IsAdmitted}
 use Rattle.recipe.specs.Statements.{program_of}
-use Rattle.recipe.specs.Tables.{Table, table_of}
+use Rattle.recipe.specs.Tables.{Table, lists_of}
 use Rattle.recipe.proofs.WithMatrix.{admitted_still}
 use Rattle.calls.specs.Verdicts.{verdict_on}
 use Rattle.calls.specs.declared.Verdict.TheVariants as verdict
 use Rattle.calls.proofs.VerdictLaws.{exact_admitted}
 use Rattle.calls.proofs.verdict_on.Reads.{Post as verdict-on-post}
 use Rattle.analysis.specs.Replies.{rounds, main_pairs, analysed_as, matrix_as, analysed, matrix_after}
-use Rattle.analysis.specs.declared.Analysed.{Analysed}
-use Rattle.analysis.specs.declared.Analysed.TheVariants as reply
 use Rattle.analysis.proofs.analyse.Reads.{Post as analyse-post}
 use Rattle.analysis.proofs.Shape.{shaped_after}
 use Rattle.demands.specs.Demanded.{PairSet, Demanded, FirstRepeat}
@@ -57,17 +57,17 @@ marked_below w m i j size e = (first (dec_lt i (label_ceiling w)), second (dec_l
 
 module _ (t : Table) (ok : IsAdmitted ours t) (m : List ℕ) (room : matrix_words ours.words ≤ length m) where
   -- the reply is the recipe's rounds, and no refusal
-  pub reported_reply : (r : Analysed) → r ≡ analysed ours t (length m) → r ≡ reply.Rounds (rounds ours.words (program_of t))
+  pub reported_reply : (r : Result ℕ Refusal) → r ≡ analysed ours t (length m) → r ≡ Ok (rounds ours.words (program_of t))
   unfolding analysed
   reported_reply r said = said ∙ ap (analysed_as ours (program_of t)) (admitted_still ours t (length m) ok room)
 
   -- the reported rounds are the definitions'
-  pub reported_rounds : (k : ℕ) → reply.Rounds k ≡ analysed ours t (length m) → k ≡ rounds ours.words (program_of t)
+  pub reported_rounds : (k : ℕ) → Ok k ≡ analysed ours t (length m) → k ≡ rounds ours.words (program_of t)
   reported_rounds k said =
-      let e : reply.Rounds k ≡ reply.Rounds (rounds ours.words (program_of t)) = reported_reply (reply.Rounds k) said in cc
+      let e : Ok k ≡ Ok (rounds ours.words (program_of t)) = reported_reply (Ok k) said in cc
 
   -- they are the first count after which one more round of the published rules changes nothing
-  pub reported_first : (k : ℕ) → reply.Rounds k ≡ analysed ours t (length m) → FirstRepeat (program_of t) k
+  pub reported_first : (k : ℕ) → Ok k ≡ analysed ours t (length m) → FirstRepeat (program_of t) k
   reported_first k said = subst (FirstRepeat (program_of t)) (sym (reported_rounds k said)) (demand_2_rounds ours t ok)
 
 -- ---- the lent words
@@ -157,7 +157,7 @@ module _
 
 -- demand 3: where the verdict is exact, each marked pair is enabled at two different places in some reached state
 pub reported_exact :
-    (t : Table) → verdict_on ours t ≡ verdict.Exact → (m : List ℕ) → matrix_words ours.words ≤ length m
+    (t : Table) → verdict_on ours t ≡ Ok verdict.Exact → (m : List ℕ) → matrix_words ours.words ≤ length m
     → (m' : List ℕ) → m' ≡ matrix_after ours t m → (i j : ℕ) → PairSet m' i j → MayMeet (program_of t) (body (program_of t) 0) i j
 reported_exact t exact m room m' held i j s =
     demand_3_exact ours t exact (set_marked t (exact_admitted ours t exact) m room m' held i j s)
@@ -166,24 +166,24 @@ reported_exact t exact m room m' held i j s =
 
 module _ (κs a r s : _) (met : analyse-post κs a r s) where
   abbrev t : Table
-  t = table_of a.0.now a.1.0.now a.1.1.0.now a.1.1.1.0.now
+  t = lists_of a.0.now
 
   abbrev lent : List ℕ
-  lent = a.1.1.1.1.0.now
+  lent = a.1.0.now
 
   -- whatever meets the contract of `analyse` answers an admitted recipe with its rounds
-  pub analyse_reply : IsAdmitted ours t → matrix_words ours.words ≤ length lent → r ≡ reply.Rounds (rounds ours.words (program_of t))
+  pub analyse_reply : IsAdmitted ours t → matrix_words ours.words ≤ length lent → r ≡ Ok (rounds ours.words (program_of t))
   analyse_reply ok room = reported_reply t ok lent room r met.0
 
   -- and leaves in the lent words what the demands ask
-  pub analyse_demands : IsAdmitted ours t → matrix_words ours.words ≤ length lent → Demanded (program_of t) lent s.1.1.1.1.0.now
-  analyse_demands ok room = reported_demands t ok lent room s.1.1.1.1.0.now met.1
+  pub analyse_demands : IsAdmitted ours t → matrix_words ours.words ≤ length lent → Demanded (program_of t) lent s.1.0.now
+  analyse_demands ok room = reported_demands t ok lent room s.1.0.now met.1
 
 -- ---- the verdict on the same
 
-module _ (κs a r s : _) (met : verdict-on-post κs a r s) (exact : r ≡ verdict.Exact) where
+module _ (κs a r s : _) (met : verdict-on-post κs a r s) (exact : r ≡ Ok verdict.Exact) where
   abbrev judged_t : Table
-  judged_t = table_of a.0.now a.1.0.now a.1.1.0.now a.1.1.1.0.now
+  judged_t = lists_of a.0.now
 
   -- whatever meets the contract of `verdict_on` and replies exact: each pair of main's is enabled at two different places in some reached state
   pub verdict_on_exact :

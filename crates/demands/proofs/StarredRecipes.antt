@@ -4,6 +4,7 @@
 use mathlib.Core.Path.{◌≡◌, refl}
 use mathlib.Core.Bool.{true}
 use mathlib.Core.List.{[], ◌∷◌, map}
+use Rattle.std.specs.Prelude.{Ok}
 use Rattle.numbers.specs.General.{every, lowest, sum_below}
 use Rattle.numbers.specs.Sizes.{ours}
 use Rattle.labels.specs.Words.{bit, changed, alike}
@@ -12,7 +13,6 @@ use Rattle.matrix.specs.Matrix.{crossed}
 use Rattle.recipe.specs.Rules.{sizes_right, operands_right, uses_by, judged_by, judged}
 use Rattle.recipe.specs.Statements.{row_statement, statement_to, statement_at, program_of}
 use Rattle.recipe.specs.Tables.{table_of}
-use Rattle.recipe.specs.declared.Judged.TheVariants.{Admitted}
 use Rattle.calls.specs.Reached.{calling, reached}
 use Rattle.calls.specs.Verdicts.{verdict_on}
 use Rattle.calls.specs.declared.Verdict.TheVariants.{Exact}
@@ -30,11 +30,11 @@ unfolding row_statement statement_to statement_at
 starred_programs = refl
 
 -- and each table is admitted
-pub starred_admitted : map (judged ours) starred_tables ≡ map (λ (r : Recipe). Admitted) starred
+pub starred_admitted : map (judged ours) starred_tables ≡ map (λ (r : Recipe). Ok tt) starred
 unfolding sizes_right operands_right uses_by sum_below lowest judged_by judged
 starred_admitted = refl
 
 -- recipe 12, whose main does nothing and whose other procedure calls itself: main never reaches that one, so the verdict is exact
-pub recipe_12_exact : verdict_on ours (table_of (0 ∷ 6 ∷ []) (0 ∷ 1 ∷ []) (0 ∷ 0 ∷ []) (0 ∷ 1 ∷ [])) ≡ Exact
+pub recipe_12_exact : verdict_on ours (table_of (0 ∷ 6 ∷ []) (0 ∷ 1 ∷ []) (0 ∷ 0 ∷ []) (0 ∷ 1 ∷ [])) ≡ Ok Exact
 unfolding sizes_right operands_right uses_by sum_below lowest judged_by judged row_statement statement_to statement_at every calling reached verdict_on
 recipe_12_exact = refl

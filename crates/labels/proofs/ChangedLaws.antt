@@ -1,8 +1,8 @@
 -- A list changed in place keeps its length, each changed word is f of the old one and what lies beyond stays: by recursion on the list, once for every use.
 -- Assumes nothing.
-use mathlib.Core.Path.{◌≡◌, refl, ap, ap₂, ◌∙◌, subst⁻¹}
-use mathlib.Core.List.{List, [], ◌∷◌}
-use Prim.Native.Nat.{ℕ, zero, suc, ◌+◌, ◌^◌, ◌≤◌, ◌<◌, min, suc-le-suc}
+use mathlib.Core.Path.{◌≡◌, refl, sym, ap, ap₂, ◌∙◌, subst⁻¹}
+use mathlib.Core.List.{List, [], ◌∷◌, ◌++◌}
+use Prim.Native.Nat.{ℕ, zero, suc, ◌+◌, ◌^◌, ◌≤◌, ◌<◌, min, suc-le-suc, zero-le}
 use native.Mathlib.Nat.{zero-min, min-zero, suc-min-suc, not-suc-le-zero, le_of_suc-le-suc, zero-lt-suc}
 use lib.Dec.{lit<}
 use lib.ListN.{length, get_or, set, take, drop}
@@ -64,6 +64,26 @@ unfolding changed
 changed_same zero s = refl
 changed_same (suc n) [] = refl
 changed_same (suc n) (x ∷ s) = ap (λ (t : List ℕ). x ∷ t) (changed_same n s)
+
+-- the first words changed apart from the others
+pub changed_front : (n : ℕ) (f : ℕ → ℕ → ℕ) (s : List ℕ) → changed n f (take n s) ++ drop n s ≡ changed n f s
+unfolding changed
+changed_front zero f s = refl
+changed_front (suc n) f [] = refl
+changed_front (suc n) f (x ∷ s) = ap (λ (t : List ℕ). f zero x ∷ t) (changed_front n (λ k. f (suc k)) s)
+
+-- a change that leaves the words from n on as they are
+pub changed_no_further :
+    (n most : ℕ) (f : ℕ → ℕ → ℕ) (s : List ℕ) → n ≤ most → ((k : ℕ) → n ≤ k → k < most → k < length s → f k (get_or s k 0) ≡ get_or s k 0)
+    → changed n f s ≡ changed most f s
+unfolding changed
+changed_no_further zero most f s h e =
+    sym (changed_alike most f (λ k x. x) s (λ k l j. e k zero-le l j) ∙ changed_same most s)
+changed_no_further (suc n) zero f s h e = absurd (not-suc-le-zero h)
+changed_no_further (suc n) (suc most) f [] h e = refl
+changed_no_further (suc n) (suc most) f (x ∷ s) h e =
+    ap (λ (t : List ℕ). f zero x ∷ t)
+    (changed_no_further n most (λ k. f (suc k)) s (le_of_suc-le-suc h) (λ k g l j. e (suc k) (suc-le-suc g) (suc-le-suc l) (suc-le-suc j)))
 
 -- a change that keeps within a word leaves words
 pub words_changed :

@@ -1,14 +1,15 @@
 -- A loop that changes the first words of a lent slice one by one: after i turns the slice is `changed` at i, and at the end at all the words that it holds.
 -- Assumes nothing.
 use mathlib.Core.Path.{◌≡◌, refl, sym, ap, ap₂, ◌∙◌}
-use mathlib.Core.List.{List}
+use mathlib.Core.List.{List, ◌++◌}
 use Prim.Native.Nat.{ℕ, ◌+◌, ◌≤◌, ◌<◌, min}
 use native.Mathlib.Numerals.{add-one}
 use native.Mathlib.Nat.{le_refl}
 use native.Mathlib.Omega.{arith}
-use lib.ListN.{length, get_or, set, length-set}
+use lib.ListN.{length, get_or, set, take, drop, length-set}
+use Rattle.std.proofs.lemmas.List.{length-take-le}
 use Rattle.labels.specs.Words.{changed}
-use Rattle.labels.proofs.ChangedLaws.{changed_beyond, changed_step, changed_short}
+use Rattle.labels.proofs.ChangedLaws.{changed_beyond, changed_step, changed_short, changed_front}
 
 pub record Changing (most : ℕ) (f : ℕ → ℕ → ℕ) (old : List ℕ) (n : ℕ) (new : List ℕ) (i : ℕ) : Type 0 where
   pub passed : i ≤ n
@@ -43,3 +44,10 @@ module _ {most : ℕ} {f : ℕ → ℕ → ℕ} {old : List ℕ} {n : ℕ} where
     where
       exact : i ≡ n
       exact = omega arith
+
+-- A loop over the first n words of a lent slice changes those, and the others stay.
+pub part_ends :
+    {f : ℕ → ℕ → ℕ} {part : List ℕ} {i : ℕ} (n : ℕ) (s : List ℕ) → n ≤ length s → Changing (length (take n s)) f (take n s) (length (take n s)) part i
+    → length (take n s) ≤ i → part ++ drop n s ≡ changed n f s
+part_ends {f} n s h c l =
+    ap (λ (t : List ℕ). t ++ drop n s) (ends c l ∙ ap (λ (k : ℕ). changed k f (take n s)) (length-take-le n s h)) ∙ changed_front n f s

@@ -1,12 +1,13 @@
 -- A set of our size in the code's own terms: it is one word x, and label l is bit l of it.
 -- Assumes nothing.
-use mathlib.Core.Path.{◌≡◌, refl, ap, ap₂, ◌∙◌}
+use mathlib.Core.Path.{◌≡◌, refl, sym, ap, ap₂, ◌∙◌}
 use mathlib.Core.Bool.{not}
 use mathlib.Core.List.{[], ◌∷◌}
 use Prim.Native.Nat.{ℕ, zero, suc, ◌+◌, ◌-◌, ◌*◌, ◌/◌, ◌%◌, ◌^◌, ◌≤◌, ◌<◌}
 use native.Mathlib.Nat.{div-eq_of_lt, mod-eq_of_lt, zero-mul, one-mul, pow-suc}
+use native.Mathlib.Decide.{dec_lt}
 use native.Mathlib.Omega.{arith}
-use lib.Bits.{bit_or, bit_and, and_high}
+use lib.Bits.{bit_or, bit_and, and_high, and_zero_r}
 use lib.Dec.{eqb}
 use lib.ListN.{get_or, set, get_or-eq_default}
 use lib.Pow.{pow_pos}
@@ -15,6 +16,7 @@ use Rattle.numbers.specs.Sizes.{ours, word_bits, label_ceiling}
 use Rattle.labels.specs.Words.{bit, changed}
 use Rattle.labels.specs.Sets.{member, none, single, joined, union}
 use Rattle.labels.proofs.BitLaws.{bit_lt, bit_of_zero}
+use Rattle.labels.proofs.SetLaws.{single_beyond}
 
 pub member_one : (x l : ℕ) → l < label_ceiling ours.words → member (x ∷ []) l ≡ bit x l
 unfolding member
@@ -51,3 +53,20 @@ masked_test x l = ap (λ (y : ℕ). not (eqb y 0)) (mask_leaves_bit x l) ∙ by_
         ap (λ (y : ℕ). not (eqb y 0)) (one-mul (2 ^ l))
         ∙ ap not (ne_eqb (2 ^ l) 0 (λ e. omega (arith, pow_pos l)))
     by_bit (suc (suc t)) h = absurd (omega arith)
+
+-- a word and the set of a member alone have a bit in common exactly if the member is in the word
+pub in_alone : (x a l : ℕ) → a ∷ [] ≡ single ours.words l → not (eqb (bit_and x a) 0) ≡ eqb (member (x ∷ []) l) 1
+in_alone x a l e = by_size (dec_lt l word_bits)
+  where
+    first : {c : ℕ} → a ∷ [] ≡ c ∷ [] → a ≡ c
+    first p = cc
+
+    by_size : Dec (l < word_bits) → not (eqb (bit_and x a) 0) ≡ eqb (member (x ∷ []) l) 1
+    by_size (yes h) =
+        ap (λ (y : ℕ). not (eqb (bit_and x y) 0)) (first (e ∙ single_one l h))
+        ∙ masked_test x l
+        ∙ sym (ap (λ (y : ℕ). eqb y 1) (member_one x l h))
+    by_size (no h) =
+        ap (λ (y : ℕ). not (eqb (bit_and x y) 0)) (first (e ∙ single_beyond ours.words l (omega arith)))
+        ∙ ap (λ (y : ℕ). not (eqb y 0)) (and_zero_r x)
+        ∙ sym (ap (λ (y : ℕ). eqb y 1) (member_one_beyond x l (omega arith)))

@@ -1,9 +1,35 @@
 // Sets of labels, each one 64-bit number with label l at bit l.
 #![tactic(auto)]
 
-ghost use Rattle.std.specs.Prelude.{◌≡◌, ◌∷◌, [], eqb};
+ghost use Rattle.std.specs.Prelude.{◌≡◌, ◌∷◌, [], ℕ, eqb};
 ghost use Rattle.numbers.specs.Sizes.{ours};
 ghost use Rattle.labels.specs.Sets.{member, single, union};
+
+use numbers::ProcNumber;
+
+// What a set holds at the bit of its number: a label in a set of labels, a procedure in a set of procedures.
+pub trait Member: Copy {
+    ghost bit_number: { Self → ℕ };
+
+    // The bit that stands for it.
+    fn number(self) -> u32
+        ensures { result ≡ bit_number self };
+
+    // The set of this member alone, and the empty set where a word has no bit of its number.
+    fn alone(self) -> u64
+        ensures { result ∷ [] ≡ single ours.words (bit_number self) }
+    {
+        let l = self.number();
+        if l < u64::BITS { 1u64 << l } else { 0 }
+    }
+
+    // Whether this member is in the set.
+    fn is_in(self, set: u64) -> bool
+        ensures { result ≡ eqb (member (set ∷ []) (bit_number self)) 1 }
+    {
+        set & self.alone() != 0
+    }
+}
 
 // A step's label. It is no procedure number and no row number.
 #[derive(Clone, Copy)]
@@ -12,29 +38,23 @@ pub struct Label(pub u8);
 impl Label {
     // Labels are below this number: one word holds a set of them.
     pub const CEILING: usize = 64;
+}
 
-    // The set of this label alone, and the empty set where the label is not below the ceiling.
-    pub fn alone(self) -> u64
-        ensures { result ∷ [] ≡ single ours.words self.0 }
-    {
-        let l = self.0;
-        if (l as usize) < Label::CEILING {
-            1u64 << l
-        } else {
-            0
-        }
+impl Member for Label {
+    ghost bit_number = { λ label. label.0 };
+
+    fn number(self) -> u32 {
+        let Label(label) = self;
+        u32::from(label)
     }
+}
 
-    // Whether this label is in the set.
-    pub fn is_in(self, set: u64) -> bool
-        ensures { result ≡ eqb (member (set ∷ []) self.0) 1 }
-    {
-        let l = self.0;
-        if (l as usize) < Label::CEILING {
-            set & (1u64 << l) != 0
-        } else {
-            false
-        }
+impl Member for ProcNumber {
+    ghost bit_number = { λ proc. proc.0 };
+
+    fn number(self) -> u32 {
+        let ProcNumber(proc) = self;
+        u32::from(proc)
     }
 }
 

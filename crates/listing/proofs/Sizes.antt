@@ -3,13 +3,14 @@
 use mathlib.Core.Path.{◌≡◌, refl, sym, ap, ◌∙◌}
 use mathlib.Core.Bool.{Bool, true, false, cond}
 use mathlib.Core.List.{List}
-use Prim.Native.Nat.{ℕ, ◌+◌, ◌*◌, ◌≤◌, ◌<◌}
+use Prim.Native.Nat.{ℕ, ◌+◌, ◌*◌, ◌^◌, ◌≤◌, ◌<◌}
 use native.Mathlib.Nat.{le_trans}
 use native.Mathlib.Decide.{dec_lt}
 use native.Mathlib.Omega.{arith}
 use borrow.Author.Tests.{lt-ltb, le-ltb, leb-true}
 use lib.Dec.{eqb, leb, ltb, lit≤}
 use lib.ListN.{length, length-append}
+use Rattle.std.specs.Prelude.{Result, Ok, Err}
 use Rattle.numbers.specs.General.{one_if, sum_below, laid}
 use Rattle.numbers.specs.Sizes.{Size, ours, label_ceiling}
 use Rattle.numbers.specs.declared.Refusal.{Refusal}
@@ -18,12 +19,10 @@ use Rattle.numbers.proofs.LowestLaws.{lowest_within}
 use Rattle.labels.specs.Sets.{member}
 use Rattle.matrix.specs.Matrix.{Pair, partners, pairs_at_or_above}
 use Rattle.text.specs.Numbers.{spelled}
-use Rattle.text.proofs.SpelledLaws.{spelled_alone, spelled_short, spelled_four}
+use Rattle.text.proofs.SpelledLaws.{spelled_alone, spelled_short, spelled_four, digits_few}
 use Rattle.recipe.specs.Rules.{IsAdmitted, judged_with}
 use Rattle.recipe.specs.Statements.{program_of}
 use Rattle.recipe.specs.Tables.{Table}
-use Rattle.recipe.specs.declared.Judged.{Judged}
-use Rattle.recipe.specs.declared.Judged.TheVariants.{Admitted, Refused}
 use Rattle.recipe.proofs.Readings.{program_length}
 use Rattle.recipe.proofs.Admitted.{sizes_right_lem}
 use Rattle.recipe.proofs.WithMatrix.{admitted_with}
@@ -33,7 +32,6 @@ use Rattle.analysis.specs.Replies.{rounds, main_pairs, matrix_after}
 use Rattle.listing.specs.Pairs.{pair_at, pairs}
 use Rattle.listing.specs.Listing.{opening, pair_line, lines, listing, longest_listing}
 use Rattle.listing.specs.Replies.{listing_of, fitted, listed_as, held_after, listed, matrix_listed, bytes_listed}
-use Rattle.listing.specs.declared.Listed.TheVariants as reply
 use Rattle.listing.proofs.LineLaws.{length_pair_line, length_opening, verdict_short}
 use Rattle.listing.proofs.PairLaws.{line_of_marked, no_line_of_unmarked, no_pair_below, bytes_in_turn, row_of}
 use Rattle.listing.proofs.Counted.{sum_monotone, pairs_few}
@@ -104,6 +102,21 @@ listing_short m rounds wide h =
       lines_short m,
     )
 
+-- Whatever the rounds are, a listing is short enough to be counted.
+pub listing_counts : (m : List ℕ) (rounds : ℕ) (wide : Bool) → rounds < 2 ^ 64 → length (listing ours.words m rounds wide) < 2 ^ 64
+unfolding listing
+listing_counts m rounds wide h =
+    let count = pairs_at_or_above ours.words m in
+    omega (
+      arith,
+      length-append (opening count rounds wide) (lines (pairs ours.words m)),
+      length_opening count rounds wide,
+      spelled_four count (omega (arith, pairs_few m)),
+      digits_few rounds h,
+      verdict_short wide,
+      lines_short m,
+    )
+
 -- ---- the listing of a recipe
 
 pub rounds_few : (t : Table) → IsAdmitted ours t → rounds ours.words (program_of t) ≤ 192
@@ -121,12 +134,12 @@ unfolding listing_of
 recipe_listing_short t ok =
     listing_short (main_pairs ours.words (program_of t)) (rounds ours.words (program_of t)) (wide (program_of t)) (rounds_few t ok)
 
-fitted_length : (text : List ℕ) (room n : ℕ) → fitted text room ≡ reply.Length n → (n ≡ length text) × (n ≤ room)
+fitted_length : (text : List ℕ) (room n : ℕ) → fitted text room ≡ Ok n → (n ≡ length text) × (n ≤ room)
 unfolding fitted
 fitted_length text room n e = go (leb (length text) room) refl e
   where
     go :
-        (b : Bool) → leb (length text) room ≡ b → cond b (reply.Length (length text)) (reply.Refused ShortBytes) ≡ reply.Length n
+        (b : Bool) → leb (length text) room ≡ b → cond b (Ok (length text)) (Err ShortBytes) ≡ Ok n
         → (n ≡ length text) × (n ≤ room)
     go true f g = let exact : n ≡ length text = cc in (exact, omega (arith, leb-true (length text) room f))
     go false f g = let z : ◌≡◌ {A = ℕ} 0 1 = cc in absurd (omega arith)
@@ -134,24 +147,24 @@ fitted_length text room n e = go (leb (length text) room) refl e
 module _ (z : Size) (t : Table) where
   -- The length in the reply is the listing's own, and lies within the lent bytes.
   pub length_exact :
-      (words room n : ℕ) → listed z t words room ≡ reply.Length n → (n ≡ length (listing_of z (program_of t))) × (n ≤ room)
+      (words room n : ℕ) → listed z t words room ≡ Ok n → (n ≡ length (listing_of z (program_of t))) × (n ≤ room)
   unfolding listed
   length_exact words room n e = go (judged_with z t words) e
     where
-      go : (j : Judged) → listed_as z (program_of t) room j ≡ reply.Length n → (n ≡ length (listing_of z (program_of t))) × (n ≤ room)
-      go Admitted f = fitted_length (listing_of z (program_of t)) room n f
-      go (Refused r) f = let n : ◌≡◌ {A = ℕ} 0 1 = cc in absurd (omega arith)
+      go : (j : Result Unit Refusal) → listed_as z (program_of t) room j ≡ Ok n → (n ≡ length (listing_of z (program_of t))) × (n ≤ room)
+      go (Ok admitted) f = fitted_length (listing_of z (program_of t)) room n f
+      go (Err r) f = let n : ◌≡◌ {A = ℕ} 0 1 = cc in absurd (omega arith)
 
   -- A refusal, for want of room among them, leaves the matrix and the bytes as they were.
   pub refused_unchanged :
-      (m b : List ℕ) (r : Refusal) → listed z t (length m) (length b) ≡ reply.Refused r
+      (m b : List ℕ) (r : Refusal) → listed z t (length m) (length b) ≡ Err r
       → (matrix_listed z t m (length b) ≡ m) × (bytes_listed z t (length m) b ≡ b)
   unfolding matrix_listed bytes_listed
   refused_unchanged m b r e = (unchanged _ m e, unchanged _ b e)
 
   -- After a listing the matrix holds what the analysis leaves, and the bytes begin with the listing.
   pub listed_held :
-      (m b : List ℕ) (n : ℕ) → listed z t (length m) (length b) ≡ reply.Length n
+      (m b : List ℕ) (n : ℕ) → listed z t (length m) (length b) ≡ Ok n
       → (matrix_listed z t m (length b) ≡ matrix_after z t m) × (bytes_listed z t (length m) b ≡ laid (listing_of z (program_of t)) b)
   unfolding matrix_listed bytes_listed
   listed_held m b n e =
@@ -159,8 +172,8 @@ module _ (z : Size) (t : Table) where
 
 -- Where the longest listing has room, no admitted recipe is refused.
 pub room_enough :
-    (t : Table) (words room : ℕ) → judged_with ours t words ≡ Admitted → longest_listing ≤ room
-    → listed ours t words room ≡ reply.Length (length (listing_of ours (program_of t)))
+    (t : Table) (words room : ℕ) → judged_with ours t words ≡ Ok tt → longest_listing ≤ room
+    → listed ours t words room ≡ Ok (length (listing_of ours (program_of t)))
 unfolding listed
 room_enough t words room ok h =
     ap (listed_as ours (program_of t) room) ok

@@ -1,13 +1,12 @@
 // The listing of a recipe's pairs into lent bytes.
 #![tactic(auto)]
 
-ghost use Rattle.std.specs.Prelude.{◌≡◌, ◌≤◌, length};
+ghost use Rattle.std.specs.Prelude.{◌≡◌, ◌≤◌, ◌<◌, ◌^◌, length};
 ghost use Rattle.numbers.specs.General.{laid};
 ghost use Rattle.numbers.specs.Sizes.{ours, matrix_words};
 ghost use Rattle.matrix.specs.Matrix.{pairs_at_or_above};
-ghost use Rattle.recipe.specs.Rules.{IsAdmitted};
 ghost use Rattle.recipe.specs.Statements.{program_of};
-ghost use Rattle.recipe.specs.Tables.{table_of};
+ghost use Rattle.recipe.specs.Tables.{lists_of};
 ghost use Rattle.calls.specs.Reached.{wide};
 ghost use Rattle.analysis.specs.Replies.{main_pairs};
 ghost use Rattle.listing.specs.Listing.{listing};
@@ -15,117 +14,103 @@ ghost use Rattle.listing.specs.Replies.{listing_of, fitted, held_after, listed, 
 
 mod lines;
 
-use analysis::Analysed;
 use calls::Verdict;
 use numbers::{MATRIX_WORDS, Refusal};
-use recipe::Judged;
+use recipe::{Recipe, Table};
+use text::{Count, Front, Sink};
 
 // No listing has more bytes.
 pub const LONGEST: usize = 11858;
 
-// What listing the pairs replies: the listing's length in bytes, or the refusal.
-#[derive(Clone, Copy)]
-pub enum Listed {
-    Length(usize),
-    Refused(Refusal),
+// A listing before it is written: the pairs, how many they are, the rounds of the analysis, and whether the verdict is wide.
+#[derive(Drop)]
+struct Listing<'a> {
+    pairs: &'a [u64; MATRIX_WORDS],
+    count: u32,
+    rounds: u32,
+    wide: bool,
+    ghost counted: { count ≡ pairs_at_or_above ours.words pairs.now },
+    ghost few: { rounds < 2 ^ 64 },
 }
 
-// Whether the verdict on an admitted table is wide.
-fn is_wide(kinds: &[u8], xs: &[u16], ys: &[u16], roots: &[u16]) -> bool
-    requires { IsAdmitted ours (table_of kinds.now xs.now ys.now roots.now) }
-    ensures { let t = table_of kinds.now xs.now ys.now roots.now in
-        result ≡ wide (program_of t) }
-{
-    match calls::verdict_on(kinds, xs, ys, roots) {
-        Verdict::Wide => true,
-        Verdict::Exact => false,
-        Verdict::Refused(_) => false,
+impl Listing<'_> {
+    // Tells the listing to a sink.
+    fn tell<S: Sink>(&self, out: &mut S)
+        ensures { let l = self.now in S.takes out.old (listing ours.words l.pairs.now l.rounds l.wide) out.new }
+    {
+        lines::opening(out, self.count as usize, self.rounds as usize, self.wide);
+        lines::all(out, self.pairs);
+    }
+
+    // Hands the pairs and their listing over, where the listing fits the bytes. Where it does not, nothing is written.
+    #[tactic(auto, using(crate::proofs::ReplyLaws::too_long_lem, crate::proofs::ReplyLaws::fits, matrix::proofs::MatrixLaws::copied_laid))]
+    fn hand_over(&self, matrix: &mut [u64], bytes: &mut [u8]) -> Result<usize, Refusal>
+        requires { matrix_words ours.words ≤ length matrix.old }
+        ensures reply { let l = self.now in result ≡ fitted (listing ours.words l.pairs.now l.rounds l.wide) (length bytes.old) }
+        ensures marks { let m = matrix.old in matrix.new ≡ held_after (laid self.now.pairs.now m) m result }
+        ensures text { let l = self.now in let b = bytes.old in
+            bytes.new ≡ held_after (laid (listing ours.words l.pairs.now l.rounds l.wide) b) b result }
+    {
+        let mut count = Count(0);
+        self.tell(&mut count);
+        let needed = count.0;
+        if bytes.len() < needed {
+            return Err(Refusal::ShortBytes);
+        }
+        let mut front = Front { bytes, at: 0 };
+        self.tell(&mut front);
+        let pairs = self.pairs;
+        matrix::copy(matrix, pairs);
+        Ok(needed)
     }
 }
 
-// The listing's length.
-fn listing_length(pairs: &[u64], count: u32, rounds: u32, wide: bool) -> usize
-    requires { (count ≡ pairs_at_or_above ours.words pairs.now) × (length pairs.now ≡ matrix_words ours.words) }
-    ensures { result ≡ length (listing ours.words pairs.now rounds wide) }
+// Whether the verdict on an admitted table, which is never refused, is wide.
+#[tactic(auto, using(calls::proofs::VerdictLaws::wide_given, calls::proofs::VerdictLaws::exact_given, calls::proofs::VerdictLaws::verdict_not_refused))]
+fn is_wide(recipe: &Recipe<'_>) -> bool
+    ensures { result ≡ wide (program_of (lists_of recipe.now.table)) }
 {
-    lines::opening_length(count as usize, rounds as usize, wide) + lines::pairs_length(pairs)
-}
-
-// Puts the listing to the front of the bytes.
-fn put_listing(bytes: &mut [u8], pairs: &[u64], count: u32, rounds: u32, wide: bool)
-    requires whole { (count ≡ pairs_at_or_above ours.words pairs.now) × (length pairs.now ≡ matrix_words ours.words) }
-    requires fits { length (listing ours.words pairs.now rounds wide) ≤ length bytes.old }
-    ensures { bytes.new ≡ laid (listing ours.words pairs.now rounds wide) bytes.old }
-{
-    let at = lines::put_opening(bytes, count as usize, rounds as usize, wide);
-    lines::put_pairs(bytes, at, pairs);
-}
-
-// Hands the pairs and their listing over, where the listing fits the bytes. Where it does not, nothing is written.
-#[tactic(auto, using(crate::proofs::ReplyLaws::too_long_lem, crate::proofs::ReplyLaws::fits, matrix::proofs::MatrixLaws::copied_laid))]
-fn hand_over(matrix: &mut [u64], bytes: &mut [u8], pairs: &[u64], rounds: u32, wide: bool) -> Listed
-    requires { (length pairs.now ≡ matrix_words ours.words) × (matrix_words ours.words ≤ length matrix.old) }
-    ensures reply { result ≡ fitted (listing ours.words pairs.now rounds wide) (length bytes.old) }
-    ensures marks { let m = matrix.old in matrix.new ≡ held_after (laid pairs.now m) m result }
-    ensures text { let b = bytes.old in
-        bytes.new ≡ held_after (laid (listing ours.words pairs.now rounds wide) b) b result }
-{
-    let count = matrix::count(pairs);
-    let needed = listing_length(pairs, count, rounds, wide);
-    if bytes.len() < needed {
-        return Listed::Refused(Refusal::ShortBytes);
+    match calls::verdict_on(&recipe.table) {
+        Ok(Verdict::Wide) => true,
+        Ok(Verdict::Exact) | Err(_) => false,
     }
-    put_listing(bytes, pairs, count, rounds, wide);
-    matrix::copy(matrix, pairs);
-    Listed::Length(needed)
 }
 
 // Lists the pairs of an admitted table.
+#[tactic(auto, unfolding(crate::specs::Replies::listing_of), using(crate::proofs::ReplyLaws::analysed_admitted, crate::proofs::ReplyLaws::pairs_given))]
 fn list_admitted(
+    recipe: &Recipe<'_>,
     matrix: &mut [u64],
     bytes: &mut [u8],
-    kinds: &[u8],
-    xs: &[u16],
-    ys: &[u16],
-    roots: &[u16],
-) -> Listed
-    requires { IsAdmitted ours (table_of kinds.now xs.now ys.now roots.now) × (matrix_words ours.words ≤ length matrix.old) }
-    ensures reply { let t = table_of kinds.now xs.now ys.now roots.now in
-        result ≡ fitted (listing_of ours (program_of t)) (length bytes.old) }
-    ensures marks { let t = table_of kinds.now xs.now ys.now roots.now in
-        matrix.new ≡ held_after (laid (main_pairs ours.words (program_of t)) matrix.old) matrix.old result }
-    ensures text { let t = table_of kinds.now xs.now ys.now roots.now in
-        bytes.new ≡ held_after (laid (listing_of ours (program_of t)) bytes.old) bytes.old result }
+) -> Result<usize, Refusal>
+    requires { matrix_words ours.words ≤ length matrix.old }
+    ensures reply { let p = program_of (lists_of recipe.now.table) in result ≡ fitted (listing_of ours p) (length bytes.old) }
+    ensures marks { let p = program_of (lists_of recipe.now.table) in
+        matrix.new ≡ held_after (laid (main_pairs ours.words p) matrix.old) matrix.old result }
+    ensures text { let p = program_of (lists_of recipe.now.table) in
+        bytes.new ≡ held_after (laid (listing_of ours p) bytes.old) bytes.old result }
 {
+    // A matrix of its own, in fixed memory: the lent one changes only where the listing fits.
     let mut pairs = [0u64; MATRIX_WORDS];
-    match analysis::analyse(kinds, xs, ys, roots, &mut pairs) {
-        Analysed::Refused(r) => Listed::Refused(r),
-        Analysed::Rounds(rounds) => {
-            let wide = is_wide(kinds, xs, ys, roots);
-            hand_over(matrix, bytes, &pairs, rounds, wide)
-        }
-    }
+    let rounds = analysis::analyse(&recipe.table, &mut pairs)?;
+    let listing = Listing {
+        pairs: &pairs,
+        count: matrix::count(&pairs),
+        rounds,
+        wide: is_wide(recipe),
+    };
+    listing.hand_over(matrix, bytes)
 }
 
 // Puts the listing of a recipe's pairs to the front of the lent bytes, marks the pairs in the lent matrix, and hands back the
 // listing's length. What is refused, a listing that does not fit among it, leaves the bytes and the matrix as they were.
-pub fn list_pairs(
-    kinds: &[u8],
-    xs: &[u16],
-    ys: &[u16],
-    roots: &[u16],
-    matrix: &mut [u64],
-    bytes: &mut [u8],
-) -> Listed
-    ensures reply { let t = table_of kinds.now xs.now ys.now roots.now in
-        result ≡ listed ours t (length matrix.old) (length bytes.old) }
-    ensures marks { let t = table_of kinds.now xs.now ys.now roots.now in
-        matrix.new ≡ matrix_listed ours t matrix.old (length bytes.old) }
-    ensures text { let t = table_of kinds.now xs.now ys.now roots.now in
-        bytes.new ≡ bytes_listed ours t (length matrix.old) bytes.old }
+#[tactic(auto, using(crate::proofs::ReplyLaws::in_order))]
+pub fn list_pairs(table: &Table<'_>, matrix: &mut [u64], bytes: &mut [u8]) -> Result<usize, Refusal>
+    ensures reply { result ≡ listed ours (lists_of table.now) (length matrix.old) (length bytes.old) }
+    ensures marks { matrix.new ≡ matrix_listed ours (lists_of table.now) matrix.old (length bytes.old) }
+    ensures text { bytes.new ≡ bytes_listed ours (lists_of table.now) (length matrix.old) bytes.old }
 {
-    match recipe::judge_with(kinds, xs, ys, roots, matrix.len()) {
-        Judged::Refused(r) => Listed::Refused(r),
-        Judged::Admitted => list_admitted(matrix, bytes, kinds, xs, ys, roots),
-    }
+    table.judge_with(matrix.len())?;
+    let recipe = Recipe { table: *table };
+    list_admitted(&recipe, matrix, bytes)
 }

@@ -9,10 +9,10 @@ use native.Mathlib.Nat.{zero-mul, one-mul, mul-one, mul-suc, mul_comm, mul_assoc
 use native.Mathlib.Nat.{min-eq_left, min-zero, le_of_suc-le-suc, not-suc-le-zero}
 use native.Mathlib.Decide.{dec_le}
 use native.Mathlib.Omega.{arith}
-use lib.Bits.{bit_and, and_lt}
+use lib.Bits.{bit_and, and_lt, and_zero_l}
 use lib.Count.{ones, ones-le}
 use lib.Dec.{leb, lit<, leb-zero, leb-suc-zero, leb-suc-suc}
-use lib.ListN.{get_or, drop}
+use lib.ListN.{length, get_or, drop, get_or-eq_default}
 use lib.Pow.{high_ones, pow_pos}
 use lib.Seq.{get_or-take, get_or-drop}
 use borrow.Author.Tests.{le-leb, lt-leb}
@@ -149,3 +149,25 @@ row_few m wm k h = ones-le word_bits _ (and_lt word_bits (get_or m k 0) (high_ma
 pub pairs_few : (m : List ℕ) → Words m → (i : ℕ) → i ≤ label_ceiling ours.words → pairs_below m i ≤ i * word_bits
 unfolding pairs_below
 pairs_few m wm i h = sum_bounded i word_bits _ (λ k l. row_few m wm k (omega arith))
+
+-- words that the matrix lacks mark no pair
+pub pairs_held : (m : List ℕ) (i : ℕ) {n : ℕ} → n ≡ min i (length m) → pairs_below m n ≡ pairs_below m i
+unfolding pairs_below
+pairs_held m i {n} e = by_length (dec_le i (length m))
+  where
+    count : ℕ → ℕ
+    count k = ones (bit_and (get_or m k 0) (high_mask k))
+
+    none : (k : ℕ) → length m ≤ k → count k ≤ 0
+    none k h =
+        let empty : bit_and (get_or m k 0) (high_mask k) ≡ 0 = ap (λ (x : ℕ). bit_and x (high_mask k)) (get_or-eq_default m 0 h) ∙ and_zero_l (high_mask k) in
+        rw empty (ones-le 0 0 (lit< tt))
+
+    by_length : Dec (i ≤ length m) → sum_below n count ≡ sum_below i count
+    by_length (yes h) = let same : n ≡ i = omega arith in ap (λ (k : ℕ). sum_below k count) same
+    by_length (no h) =
+        let all : length m + (i - length m) ≡ i = omega arith in
+        let same : n ≡ length m = omega arith in
+        let rest : sum_below (i - length m) (λ k. count (length m + k)) ≤ (i - length m) * 0 =
+        sum_bounded (i - length m) 0 (λ k. count (length m + k)) (λ k l. none (length m + k) (omega arith)) in
+        omega (arith, ap (λ (k : ℕ). sum_below k count) same, ap (λ (k : ℕ). sum_below k count) all, sum_split (length m) (i - length m) count)

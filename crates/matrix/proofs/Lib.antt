@@ -3,3 +3,4 @@ pub mod CountLaws
 pub mod OneWord
 pub mod Unique
 mod BothSizes
+pub mod Joining

@@ -4,16 +4,19 @@
 use mathlib.Core.Path.{◌≡◌, refl, sym, ap, ap₂, ◌∙◌, subst}
 use mathlib.Core.Logic.{⊎_elim}
 use mathlib.Core.List.{List, [], ◌∷◌, ◌++◌}
-use Prim.Native.Nat.{ℕ, zero, suc, ◌+◌, ◌*◌, ◌/◌, ◌%◌, ◌^◌, ◌≤◌, ◌<◌, zero-le, min, max}
+use Prim.Native.Nat.{ℕ, zero, suc, ◌+◌, ◌-◌, ◌*◌, ◌/◌, ◌%◌, ◌^◌, ◌≤◌, ◌<◌, zero-le, min, max}
 use native.Mathlib.Nat.{le_trans, max_comm, min_comm, suc-mul, mul-zero, mul-le-mul_right, mul-add-div_right, mul-add-mod_self_right, div-eq_of_lt}
 use native.Mathlib.Nat.{mod-eq_of_lt, mod-lt, add-zero, div-add-mod', div-lt_iff_lt-mul, lt_of_lt_of_le, eq-zero-or-pos, not-suc-le-zero}
-use native.Mathlib.Nat.{le_of_suc-le-suc}
-use native.Mathlib.Decide.{dec_lt}
+use native.Mathlib.Nat.{le_of_suc-le-suc, zero-sub, sub-zero, suc-sub-suc}
+use native.Mathlib.Decide.{dec_lt, dec_le}
 use native.Mathlib.Omega.{arith}
 use lib.Bits.{bit_or, or_lt}
 use lib.Dec.{lit<}
-use lib.ListN.{length, get_or, take, drop, length-take, drop_of_length-le, get_or-append}
-use lib.Seq.{ext_get_or, get_or-take, get_or-drop, take-nil}
+use lib.ListN.{length, get_or, take, drop, replicate, length-take, length-append, length-drop, drop_of_length-le, get_or-append}
+use borrow.Rule.Slice.PartMut.{put_mid}
+use lib.Seq.{take_all, drop-drop, ext_get_or, get_or-take, get_or-drop, take-nil}
+use Rattle.std.proofs.lemmas.List.{length-take-le, take_at}
+use Rattle.std.proofs.lemmas.Slice.{drop-append-drop}
 use Rattle.numbers.specs.General.{laid}
 use Rattle.numbers.specs.Sizes.{word_bits, label_ceiling, matrix_words}
 use Rattle.labels.specs.Words.{bit, Words, changed}
@@ -214,6 +217,56 @@ replaced (suc n) f (y ∷ m) [] h e same = absurd (omega arith)
 replaced (suc n) f (y ∷ m) (z ∷ x) h e same =
     ap₂ (λ (v : ℕ) (t : List ℕ). v ∷ t) (same zero (omega arith))
     (replaced n (λ k. f (suc k)) m x (le_of_suc-le-suc h) (omega arith) (λ k l. same (suc k) (omega arith)))
+
+-- what is put in the place of the first n words, in two parts: the other matrix's words, and 0 for those that it lacks
+pub cleared_front : (n : ℕ) (m : List ℕ) → n ≤ length m → replicate n 0 ++ drop n m ≡ changed n (λ k y. 0) m
+unfolding changed
+cleared_front zero m h = refl
+cleared_front (suc n) [] h = absurd (omega arith)
+cleared_front (suc n) (y ∷ m) h = ap (λ (t : List ℕ). 0 ∷ t) (cleared_front n m (le_of_suc-le-suc h))
+
+copied_front :
+    (n : ℕ) (x m : List ℕ) → n ≤ length m → take n x ++ (replicate (n - length x) 0 ++ drop n m) ≡ changed n (λ k y. get_or x k 0) m
+unfolding changed
+copied_front zero x m h = ap (λ (k : ℕ). replicate k 0 ++ m) (zero-sub (length x))
+copied_front (suc n) [] m h =
+    ap (λ (k : ℕ). replicate k 0 ++ drop (suc n) m) (sub-zero (suc n)) ∙ cleared_front (suc n) m h
+copied_front (suc n) (z ∷ x) [] h = absurd (omega arith)
+copied_front (suc n) (z ∷ x) (y ∷ m) h =
+    ap (λ (t : List ℕ). z ∷ t)
+    (ap (λ (k : ℕ). take n x ++ (replicate k 0 ++ drop n m)) (suc-sub-suc n (length x)) ∙ copied_front n x m (le_of_suc-le-suc h))
+
+pub copied_in_parts :
+    (n t : ℕ) (x m : List ℕ) {front rest : List ℕ} → t ≡ min n (length x) → n ≤ length m → front ≡ take t x
+    → rest ≡ replicate (length (take (n - t) (drop t (front ++ drop t m)))) 0
+    → put_mid t (n - t) (front ++ drop t m) rest ≡ changed n (λ k y. get_or x k 0) m
+copied_in_parts n t x m {front} {rest} e h f r =
+    ap₂ ◌++◌ (take_at front (drop t m) t many ∙ f ∙ taken (dec_le n (length x)))
+    (ap₂ ◌++◌ (r ∙ ap (λ (k : ℕ). replicate k 0) (length-take-le (n - t) (drop t (front ++ drop t m)) room ∙ left)) tail)
+    ∙ copied_front n x m h
+  where
+    many : length front ≡ t
+    many = ap length f ∙ length-take-le t x (omega arith)
+
+    whole : length (front ++ drop t m) ≡ length m
+    whole = omega (arith, many, length-append front (drop t m), length-drop t m)
+
+    room : n - t ≤ length (drop t (front ++ drop t m))
+    room = omega (arith, whole, length-drop t (front ++ drop t m))
+
+    left : n - t ≡ n - length x
+    left = omega arith
+
+    taken : Dec (n ≤ length x) → take t x ≡ take n x
+    taken (yes l) = let all : t ≡ n = omega arith in ap (λ (k : ℕ). take k x) all
+    taken (no l) = take_all t x (omega arith) ∙ sym (take_all n x (omega arith))
+
+    tail : drop (n - t) (drop t (front ++ drop t m)) ≡ drop n m
+    tail =
+        let up : t + (n - t) ≡ n = omega arith in
+        drop-drop (n - t) t (front ++ drop t m)
+        ∙ ap (λ (k : ℕ). drop k (front ++ drop t m)) up
+        ∙ drop-append-drop t m front n (omega arith) many
 
 pub copied_laid : (w : ℕ) (m x : List ℕ) → matrix_words w ≤ length m → length x ≡ matrix_words w → copied w m x ≡ laid x m
 unfolding copied

@@ -2,19 +2,19 @@
 -- Assumes nothing.
 use mathlib.Core.Path.{◌≡◌, sym, ap, ap₂, ◌∙◌, subst}
 use mathlib.Core.List.{List, [], ◌∷◌}
-use Prim.Native.Nat.{ℕ, suc, ◌+◌, ◌-◌, ◌*◌, ◌%◌, ◌^◌, ◌≤◌, ◌<◌}
+use Prim.Native.Nat.{ℕ, suc, ◌+◌, ◌-◌, ◌*◌, ◌%◌, ◌^◌, ◌≤◌, ◌<◌, min}
 use native.Mathlib.Nat.{div-eq_of_lt, mod-eq_of_lt, div-one, mod-one, zero-add, zero-mul, mul-zero, mul-suc, mul_comm, le_of_lt}
 use native.Mathlib.Omega.{arith}
 use lib.Bits.{bit_or, bit_and, or_zero_r}
 use lib.Count.{ones}
-use lib.ListN.{get_or}
+use lib.ListN.{length, get_or}
 use lib.Pow.{low, pow_mono, pow_pos, suc_ones}
 use Rattle.numbers.specs.Sizes.{ours, word_bits, label_ceiling, matrix_words}
 use Rattle.labels.specs.Words.{bit, Words, changed}
 use Rattle.numbers.specs.General.{sum_below}
 use Rattle.labels.specs.Sets.{member}
 use Rattle.matrix.specs.Matrix.{marked, crossed, pairs_at_or_above}
-use Rattle.labels.proofs.ChangedLaws.{changed_alike, changed_same}
+use Rattle.labels.proofs.ChangedLaws.{changed_alike, changed_same, changed_short}
 use Rattle.labels.proofs.SetLaws.{member_none}
 use Rattle.numbers.proofs.SumLaws.{sum_alike}
 use Rattle.matrix.proofs.MatrixLaws.{marked_at}
@@ -72,6 +72,11 @@ crossed_none_right a b m e =
     ∙ crossed_with_none m (λ k x. bit_or (member (a ∷ []) k * b) (member (b ∷ []) k * a))
     (λ k x. subst (λ (n : ℕ). bit_or (member (a ∷ []) k * n) (member (n ∷ []) k * a) ≡ 0) (sym e)
     (ap₂ bit_or (mul-zero (member (a ∷ []) k)) (ap (λ (n : ℕ). n * a) (member_none 1 k) ∙ zero-mul a) ∙ or_zero_r 0))
+
+-- what is changed of the words that a slice holds is changed of the matrix
+pub held_words :
+    (f : ℕ → ℕ → ℕ) (s : List ℕ) {n : ℕ} → n ≡ min (matrix_words ours.words) (length s) → changed n f s ≡ changed (matrix_words ours.words) f s
+held_words f s e = ap (λ (k : ℕ). changed k f s) e ∙ changed_short (matrix_words ours.words) f s
 
 pub pairs_one : (m : List ℕ) → Words m → pairs_at_or_above ours.words m ≡ sum_below (label_ceiling ours.words) (λ i. ones (bit_and (get_or m i 0) (high_mask i)))
 unfolding sum_below

@@ -2,13 +2,13 @@
 // A lent slice may be of any length: words that it lacks count as 0 and are not written, words beyond the matrix stay.
 #![tactic(auto)]
 
-ghost use Rattle.std.specs.Prelude.{◌≡◌, ◌∷◌, [], ◌-◌, ◌*◌, ◌^◌, ◌<◌, min, get_or};
-ghost use Rattle.std.specs.Int.Bits.{bit_or, bit_and};
+ghost use Rattle.std.specs.Prelude.{◌≡◌, ◌∷◌, [], ◌-◌, ◌*◌, ◌^◌, ◌<◌, min};
+ghost use Rattle.std.specs.Int.Bits.{bit_and};
 ghost use Rattle.std.specs.Int.Count.{ones};
 ghost use Rattle.numbers.specs.Sizes.{ours, word_bits, label_ceiling, matrix_words};
-ghost use Rattle.labels.specs.Sets.{member};
+ghost use Rattle.labels.specs.Words.{changed};
 ghost use Rattle.matrix.specs.Matrix.{merged, crossed, pairs_at_or_above};
-ghost use Rattle.matrix.specs.Inner.{cleared, copied};
+ghost use Rattle.matrix.specs.Inner.{joining, cleared, copied};
 
 use labels::Label;
 use numbers::MATRIX_WORDS;
@@ -17,34 +17,23 @@ use numbers::MATRIX_WORDS;
 fn held(len: usize) -> usize
     ensures { result ≡ min (matrix_words ours.words) len }
 {
-    if len < MATRIX_WORDS {
-        len
-    } else {
-        MATRIX_WORDS
+    len.min(MATRIX_WORDS)
+}
+
+// Joins the partners to the word of each label of the set. Only the labels that are in it are visited.
+fn join_each(matrix: &mut [u64], set: u64, partners: u64)
+    ensures { matrix.new ≡ changed (matrix_words ours.words) (joining set partners) matrix.old }
+{
+    let mut rest = set;
+    // A `while` and no `for`: what is left is the bits of a word, over which no iterator runs.
+    while rest != 0 {
+        let label = rest.trailing_zeros();
+        let i = label as usize;
+        if i < matrix.len() {
+            matrix[i] |= partners;
+        }
+        rest &= !(1u64 << label);
     }
-}
-
-// Word i of a slice, 0 past its end.
-fn word_at(s: &[u64], i: usize) -> u64
-    ensures { result ≡ get_or s.now i 0 }
-{
-    if i < s.len() { s[i] } else { 0 }
-}
-
-// Whether the label is in the set, as a number.
-fn bit_of(set: u64, label: Label) -> u64
-    requires { label.0 < label_ceiling ours.words }
-    ensures { result ≡ member (set ∷ []) label.0 }
-{
-    (set >> label.0) % 2
-}
-
-// One word of a crossing: the label's partners are joined by b where it is in a, and by a where it is in b.
-fn crossed_word(x: u64, label: Label, a: u64, b: u64) -> u64
-    requires { label.0 < label_ceiling ours.words }
-    ensures { result ≡ bit_or x (bit_or (member (a ∷ []) label.0 * b) (member (b ∷ []) label.0 * a)) }
-{
-    x | (bit_of(a, label) * b | bit_of(b, label) * a)
 }
 
 // Marks every (x,y) and every (y,x) with x in a and y in b. Where one of them is empty, which is often so, nothing is to be done.
@@ -54,23 +43,17 @@ pub fn cross(matrix: &mut [u64], a: u64, b: u64)
     if a == 0 || b == 0 {
         return;
     }
-    let n = held(matrix.len());
-    let mut i = 0;
-    while i < n {
-        matrix[i] = crossed_word(matrix[i], Label(i as u8), a, b);
-        i += 1;
-    }
+    join_each(matrix, a, b);
+    join_each(matrix, b, a);
 }
 
-// Marks every pair that is marked in the other matrix.
+// Marks every pair that is marked in the other matrix. Its words are read by number: of words changed through a zip a proof knows none.
 pub fn merge(matrix: &mut [u64], other: &[u64])
     ensures { matrix.new ≡ merged ours.words matrix.old other.now }
 {
-    let n = held(matrix.len());
-    let mut i = 0;
-    while i < n {
-        matrix[i] = matrix[i] | word_at(other, i);
-        i += 1;
+    let n = held(matrix.len()).min(other.len());
+    for (i, word) in matrix[..n].iter_mut().enumerate() {
+        *word |= other[i];
     }
 }
 
@@ -79,11 +62,7 @@ pub fn clear(matrix: &mut [u64])
     ensures { matrix.new ≡ cleared ours.words matrix.old }
 {
     let n = held(matrix.len());
-    let mut i = 0;
-    while i < n {
-        matrix[i] = 0;
-        i += 1;
-    }
+    matrix[..n].fill(0);
 }
 
 // Marks the pairs of the other matrix and no others.
@@ -91,11 +70,9 @@ pub fn copy(matrix: &mut [u64], other: &[u64])
     ensures { matrix.new ≡ copied ours.words matrix.old other.now }
 {
     let n = held(matrix.len());
-    let mut i = 0;
-    while i < n {
-        matrix[i] = word_at(other, i);
-        i += 1;
-    }
+    let there = n.min(other.len());
+    matrix[..there].copy_from_slice(&other[..there]);
+    matrix[there..n].fill(0);
 }
 
 // How many pairs of the label with itself and those above it its word marks.
@@ -110,11 +87,10 @@ fn pairs_from(x: u64, label: Label) -> u32
 pub fn count(matrix: &[u64]) -> u32
     ensures { result ≡ pairs_at_or_above ours.words matrix.now }
 {
-    let mut sum: u32 = 0;
-    let mut i = 0;
-    while i < Label::CEILING {
-        sum += pairs_from(word_at(matrix, i), Label(i as u8));
-        i += 1;
+    let n = held(matrix.len());
+    let mut sum = 0;
+    for (i, word) in matrix[..n].iter().enumerate() {
+        sum += pairs_from(*word, Label(i as u8));
     }
     sum
 }

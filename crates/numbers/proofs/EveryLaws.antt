@@ -1,20 +1,12 @@
--- A test that passes at each number below n, from the last down: a failure ends it, and a pass leaves the rest.
+-- A test that passes at each number below n: it passes at each one of them, by recursion on n.
 -- Assumes nothing.
 use mathlib.Core.Bool.{Bool, true, false, ◌&&◌, true≢false}
 use mathlib.Core.Logic.{◌⊎◌, inl, inr}
 use mathlib.Core.Path.{◌≡◌, refl, sym, ap, ap₂, ◌∙◌, subst}
-use Prim.Native.Nat.{ℕ, zero, suc, ◌-◌, ◌<◌}
+use Prim.Native.Nat.{ℕ, zero, suc, ◌<◌}
 use native.Mathlib.Nat.{not-suc-le-zero, eq-or-lt_of_le, le_of_suc-le-suc, le_refl}
 use native.Mathlib.Omega.{arith}
 use Rattle.numbers.specs.General.{every}
-
-and_false : (b : Bool) → b && false ≡ false
-and_false true = refl
-and_false false = refl
-
-and_true : (b : Bool) → b && true ≡ b
-and_true true = refl
-and_true false = refl
 
 both : (a b : Bool) → a && b ≡ true → (a ≡ true) × (b ≡ true)
 both true b e = (refl, e)
@@ -28,18 +20,6 @@ module _ (test : ℕ → Bool) where
   pub every_next : (n : ℕ) → every (suc n) test ≡ (every n test && test n)
   unfolding every
   every_next n = refl
-
-  module _ (i : ℕ) (h : 0 < i) where
-    down : i ≡ suc (i - 1)
-    down = omega arith
-
-    pub passes_down : test (i - 1) ≡ true → every i test ≡ every (i - 1) test
-    passes_down e =
-        ap (λ (k : ℕ). every k test) down ∙ every_next (i - 1) ∙ ap (λ (b : Bool). every (i - 1) test && b) e ∙ and_true (every (i - 1) test)
-
-    pub fails_down : test (i - 1) ≡ false → every i test ≡ false
-    fails_down e =
-        ap (λ (k : ℕ). every k test) down ∙ every_next (i - 1) ∙ ap (λ (b : Bool). every (i - 1) test && b) e ∙ and_false (every (i - 1) test)
 
   pub every_passes : (n : ℕ) → every n test ≡ true → (k : ℕ) → k < n → test k ≡ true
   every_passes zero e k h = absurd (not-suc-le-zero h)

@@ -1,5 +1,6 @@
 pub mod SumLaws
 pub mod LowestLaws
+pub mod PositionLaws
 pub mod EveryLaws
 pub mod InTurnLaws
 pub mod Refusals

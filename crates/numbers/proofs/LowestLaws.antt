@@ -1,8 +1,8 @@
 -- What `lowest` finds: the search from 0 upwards stops at the first place that passes the test, and at n where none does.
 -- Assumes nothing.
-use Prim.Native.Nat.{ℕ, zero, suc, ◌+◌, ◌≤◌, ◌<◌, min, suc-le-suc, zero-le}
+use Prim.Native.Nat.{ℕ, zero, suc, ◌+◌, ◌≤◌, ◌<◌, suc-le-suc, zero-le}
 use mathlib.Core.Path.{◌≡◌, refl, ap}
-use mathlib.Core.Bool.{Bool, true, false, cond, ◌||◌}
+use mathlib.Core.Bool.{Bool, true, false, cond}
 use native.Mathlib.Nat.{le_of_suc-le-suc}
 use native.Mathlib.Omega.{arith}
 use borrow.Author.Count.{below_more}
@@ -59,26 +59,6 @@ none_below (suc n) test (suc k) l = none_below n (λ j. test (suc j)) k (go (tes
 -- Where it is n, the test fails at each place below n.
 pub none_at_all : (n : ℕ) (test : ℕ → Bool) → n ≤ lowest n test → (k : ℕ) → k < n → test k ≡ false
 none_at_all n test h k l = none_below n test k (omega arith)
-
--- Two tests that agree below n have the same lowest place.
-pub lowest_same : (n : ℕ) (test other : ℕ → Bool) → ((k : ℕ) → k < n → test k ≡ other k) → lowest n test ≡ lowest n other
-unfolding lowest
-lowest_same zero test other same = refl
-lowest_same (suc n) test other same =
-    rw (same zero (suc-le-suc zero-le))
-    (ap (λ (m : ℕ). cond (other zero) zero (suc m))
-    (lowest_same n (λ k. test (suc k)) (λ k. other (suc k)) (λ k l. same (suc k) (suc-le-suc l))))
-
--- The lowest place at which one of two tests passes is the lesser of their lowest places.
-pub lowest_either : (n : ℕ) (test other : ℕ → Bool) → min (lowest n test) (lowest n other) ≡ lowest n (λ k. test k || other k)
-unfolding lowest
-lowest_either zero test other = omega arith
-lowest_either (suc n) test other = go (test zero) (other zero) _ _ _ (lowest_either n (λ k. test (suc k)) (λ k. other (suc k)))
-  where
-    go : (p q : Bool) (a b c : ℕ) → min a b ≡ c → min (cond p zero (suc a)) (cond q zero (suc b)) ≡ cond (p || q) zero (suc c)
-    go true q a b c e = omega arith
-    go false true a b c e = omega arith
-    go false false a b c e = omega arith
 
 -- A search has passed the places below i and found nothing.
 abbrev pub Passed : ℕ → (ℕ → Bool) → ℕ → Type 0

@@ -1,8 +1,8 @@
 // The lowest room: row, procedure and line numbers kept apart, the ceilings by size, the numbered refusals, and definitions of general use.
 #![tactic(auto)]
 
-ghost use Rattle.std.specs.Prelude.{◌≡◌, min, ltb, length, get_or};
-ghost use Rattle.numbers.specs.General.{lowest};
+ghost use Rattle.std.specs.Prelude.{◌≡◌, position};
+ghost use Rattle.std.specs.Ordering.{partial_gt};
 ghost use Rattle.numbers.specs.Refusals.{refusal_number, refusal_place};
 
 // The number of a row. It is no procedure number and no label.
@@ -92,7 +92,7 @@ impl Refusal {
         }
     }
 
-    // The place that the reply names, and 0 where it names none.
+    // The place that the reply names, and 0 where it names none: C is told a number, so it is no Option.
     pub fn place(self) -> u32
         ensures { result ≡ refusal_place self }
     {
@@ -114,37 +114,9 @@ impl Refusal {
     }
 }
 
-// The smaller of two numbers.
-pub fn least(a: usize, b: usize) -> usize
-    ensures { result ≡ min a b }
+// The lowest place of a number above this one, where there is one.
+pub fn first_above<T: Copy + PartialOrd>(numbers: &[T], most: T) -> Option<usize>
+    ensures { result ≡ position (λ x. partial_gt T.partial_cmp x most) numbers.now }
 {
-    if a < b { a } else { b }
-}
-
-// The lowest place of a byte above this one, or the number of bytes where there is none.
-pub fn first_byte_above(bytes: &[u8], most: u8) -> usize
-    ensures { let s = bytes.now in result ≡ lowest (length s) (λ i. ltb most (get_or s i 0)) }
-{
-    let mut i = 0;
-    while i < bytes.len() {
-        if bytes[i] > most {
-            return i;
-        }
-        i += 1;
-    }
-    i
-}
-
-// The lowest place of a number above this one, or how many numbers there are where there is none.
-pub fn first_above(numbers: &[u16], most: u16) -> usize
-    ensures { let s = numbers.now in result ≡ lowest (length s) (λ i. ltb most (get_or s i 0)) }
-{
-    let mut i = 0;
-    while i < numbers.len() {
-        if numbers[i] > most {
-            return i;
-        }
-        i += 1;
-    }
-    i
+    numbers.iter().position(|x| *x > most)
 }

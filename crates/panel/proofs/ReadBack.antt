@@ -9,6 +9,7 @@ use native.Mathlib.Omega.{arith}
 use borrow.Author.Tests.{leb-true, leb-false, not-false}
 use lib.Dec.{leb}
 use lib.ListN.{length, length-append}
+use Rattle.std.specs.Prelude.{Result, Ok, Err}
 use Rattle.numbers.specs.Sizes.{ours, row_ceiling, sheet_ceiling}
 use Rattle.numbers.specs.Refusals.{refusal_number, refusal_place}
 use Rattle.numbers.specs.declared.Refusal.{Refusal}
@@ -19,30 +20,23 @@ use Rattle.recipe.specs.Offences.{Refuses}
 use Rattle.recipe.specs.Rules.{Rule, sizes_fit, matrix_rule, further_rules, rules_with, judged_with}
 use Rattle.recipe.specs.Statements.{program_of}
 use Rattle.recipe.specs.Tables.{Table, rows, procs}
-use Rattle.recipe.specs.declared.Judged.{Judged}
-use Rattle.recipe.specs.declared.Judged.TheVariants as judged_reply
 use Rattle.recipe.specs.declared.Row.{Row}
 use Rattle.recipe.proofs.Judging.{sized}
 use Rattle.recipe.proofs.Offences.{refused_with_means}
 use Rattle.recipe.proofs.WithMatrix.{admitted_with}
 use Rattle.analysis.specs.Replies.{analysed_as, analysed}
-use Rattle.analysis.specs.declared.Analysed.{Analysed}
-use Rattle.analysis.specs.declared.Analysed.TheVariants as analysis
 use Rattle.sheet.specs.Form.{spell, spelled_row, spelled_root}
 use Rattle.sheet.specs.Offences.{Offends, Offence}
 use Rattle.sheet.specs.Reading.{read_sheet}
 use Rattle.sheet.proofs.Outcomes.{spell_row, spell_root}
 use Rattle.sheet.proofs.SheetForms.{refused_where_it_offends}
 use Rattle.sheet.proofs.StepLaws.{sheet_too_long}
+use Rattle.table.specs.declared.Room.{Room}
 use Rattle.table.specs.Reading.{Reading, table, refused, reply_of}
-use Rattle.table.specs.declared.Read.{Read}
-use Rattle.table.specs.declared.Read.TheVariants as read
 use Rattle.listing.specs.Listing.{longest_listing}
 use Rattle.listing.specs.Replies.{listing_of, fitted, listed_as, listed}
-use Rattle.listing.specs.declared.Listed.{Listed}
-use Rattle.listing.specs.declared.Listed.TheVariants as listing
 use Rattle.listing.proofs.Sizes.{rounds_few, recipe_listing_short}
-use Rattle.panel.specs.Codes.{number_unit, procs_unit, refusal_code, analysed_code, read_code, listed_code}
+use Rattle.panel.specs.Codes.{number_unit, procs_unit, refusal_code, reply_code, read_code}
 use Rattle.panel.specs.Inner.{WithinCeilings}
 use Rattle.panel.proofs.CodeLaws.{reading_within}
 
@@ -92,7 +86,7 @@ near_refused (r ∷ more) near (Refuses.here {i = i} f) = near.0 i f.there
 near_refused (r ∷ more) near (Refuses.later none o) = near_refused more near.1 o
 
 -- What the judge refuses has a place in the table.
-near_judged : (t : Table) (words : ℕ) (r : Refusal) → judged_with ours t words ≡ judged_reply.Refused r → Near r
+near_judged : (t : Table) (words : ℕ) (r : Refusal) → judged_with ours t words ≡ Err r → Near r
 near_judged t words r e = go (refused_with_means ours t r words e)
   where
     go : {why : Refusal} → Refuses (rules_with ours t words) why → Near why
@@ -112,50 +106,38 @@ near_judged t words r e = go (refused_with_means ours t r words e)
           ),
         ) o
 
--- ---- the analysis
+-- ---- the analysis and the listing
 
-abbrev FitsAnalysed : Analysed → Type 0
-FitsAnalysed (analysis.Rounds k) = k < number_unit
-FitsAnalysed (analysis.Refused r) = Near r
+abbrev Fits : Result ℕ Refusal → Type 0
+Fits (Ok k) = k < number_unit
+Fits (Err r) = Near r
 
-analysed_fits : (t : Table) (words : ℕ) → FitsAnalysed (analysed ours t words)
+replies_told : (x y : Result ℕ Refusal) → Fits x → Fits y → reply_code x ≡ reply_code y → x ≡ y
+replies_told (Ok k) (Ok l) p q e = ap Ok e
+replies_told (Ok k) (Err s) p q e = success_told k s p e
+replies_told (Err r) (Ok l) p q e = success_told l r q (sym e)
+replies_told (Err r) (Err s) p q e = ap Err (refusals_told r s p q e)
+
+analysed_fits : (t : Table) (words : ℕ) → Fits (analysed ours t words)
 unfolding analysed
 analysed_fits t words = go (judged_with ours t words) refl
   where
-    go : (j : Judged) → judged_with ours t words ≡ j → FitsAnalysed (analysed_as ours (program_of t) j)
-    go judged_reply.Admitted e = omega (arith, rounds_few t (admitted_with ours t words e).0)
-    go (judged_reply.Refused r) e = near_judged t words r e
+    go : (j : Result Unit Refusal) → judged_with ours t words ≡ j → Fits (analysed_as ours (program_of t) j)
+    go (Ok _) e = omega (arith, rounds_few t (admitted_with ours t words e).0)
+    go (Err r) e = near_judged t words r e
 
-analysed_told : (x y : Analysed) → FitsAnalysed x → FitsAnalysed y → analysed_code x ≡ analysed_code y → x ≡ y
-analysed_told (analysis.Rounds k) (analysis.Rounds l) p q e = ap analysis.Rounds e
-analysed_told (analysis.Rounds k) (analysis.Refused s) p q e = success_told k s p e
-analysed_told (analysis.Refused r) (analysis.Rounds l) p q e = success_told l r q (sym e)
-analysed_told (analysis.Refused r) (analysis.Refused s) p q e = ap analysis.Refused (refusals_told r s p q e)
-
--- ---- the listing
-
-abbrev FitsListed : Listed → Type 0
-FitsListed (listing.Length n) = n < number_unit
-FitsListed (listing.Refused r) = Near r
-
-listed_fits : (t : Table) (words room : ℕ) → FitsListed (listed ours t words room)
+listed_fits : (t : Table) (words room : ℕ) → Fits (listed ours t words room)
 unfolding listed fitted
 listed_fits t words room = go (judged_with ours t words) refl
   where
     text : (b : Bool) → length (listing_of ours (program_of t)) ≤ longest_listing
-        → FitsListed (cond b (listing.Length (length (listing_of ours (program_of t)))) (listing.Refused ShortBytes))
+        → Fits (cond b (Ok (length (listing_of ours (program_of t)))) (Err ShortBytes))
     text true h = omega (arith, h)
     text false h = (omega arith, λ e. omega arith)
 
-    go : (j : Judged) → judged_with ours t words ≡ j → FitsListed (listed_as ours (program_of t) room j)
-    go judged_reply.Admitted e = text (leb (length (listing_of ours (program_of t))) room) (recipe_listing_short t (admitted_with ours t words e).0)
-    go (judged_reply.Refused r) e = near_judged t words r e
-
-listed_told : (x y : Listed) → FitsListed x → FitsListed y → listed_code x ≡ listed_code y → x ≡ y
-listed_told (listing.Length k) (listing.Length l) p q e = ap listing.Length e
-listed_told (listing.Length k) (listing.Refused s) p q e = success_told k s p e
-listed_told (listing.Refused r) (listing.Length l) p q e = success_told l r q (sym e)
-listed_told (listing.Refused r) (listing.Refused s) p q e = ap listing.Refused (refusals_told r s p q e)
+    go : (j : Result Unit Refusal) → judged_with ours t words ≡ j → Fits (listed_as ours (program_of t) room j)
+    go (Ok _) e = text (leb (length (listing_of ours (program_of t))) room) (recipe_listing_short t (admitted_with ours t words e).0)
+    go (Err r) e = near_judged t words r e
 
 -- ---- the readers
 
@@ -181,9 +163,9 @@ near_offence R P bytes why h o = go o.offends
     go (Offends.row_lacks l z n) = (near, λ e. omega arith)
     go (Offends.root_lacks l n) = (near, λ e. omega arith)
 
-abbrev FitsRead : Read → Type 0
-FitsRead (read.Stored n m) = WithinCeilings (read.Stored n m)
-FitsRead (read.Refused r) = Near r
+abbrev FitsRead : Result Room Refusal → Type 0
+FitsRead (Ok kept) = (kept.rows ≤ row_ceiling) × (kept.roots ≤ ours.procs)
+FitsRead (Err r) = Near r
 
 near_read : (R P : ℕ) (bytes : List ℕ) (why : Refusal) → read_sheet ours R P bytes ≡ refused why → Near why
 near_read R P bytes why e = go (leb (length bytes) sheet_ceiling) refl
@@ -202,22 +184,22 @@ read_fits R P bytes = go (read_sheet ours R P bytes) refl
     go (table rows roots) e = subst (λ (w : Reading). WithinCeilings (reply_of w)) e (reading_within R P bytes)
     go (refused why) e = near_read R P bytes why e
 
-read_told : (x y : Read) → FitsRead x → FitsRead y → read_code x ≡ read_code y → x ≡ y
-read_told (read.Stored n m) (read.Stored k l) p q e =
-    let rows : n ≡ k = omega (arith, p.0, q.0, e) in
-    let roots : m ≡ l = omega (arith, p.0, q.0, e) in ap₂ read.Stored rows roots
-read_told (read.Stored n m) (read.Refused s) p q e = success_told (n + procs_unit * m) s (omega (arith, p.0, p.1)) e
-read_told (read.Refused r) (read.Stored k l) p q e = success_told (k + procs_unit * l) r (omega (arith, q.0, q.1)) (sym e)
-read_told (read.Refused r) (read.Refused s) p q e = ap read.Refused (refusals_told r s p q e)
+read_told : (x y : Result Room Refusal) → FitsRead x → FitsRead y → read_code x ≡ read_code y → x ≡ y
+read_told (Ok n) (Ok k) p q e =
+    let rows : n.rows ≡ k.rows = omega (arith, p.0, q.0, e) in
+    let roots : n.roots ≡ k.roots = omega (arith, p.0, q.0, e) in ap₂ (λ (i j : ℕ). Ok (record { rows = i; roots = j })) rows roots
+read_told (Ok n) (Err s) p q e = success_told (n.rows + procs_unit * n.roots) s (omega (arith, p.0, p.1)) e
+read_told (Err r) (Ok k) p q e = success_told (k.rows + procs_unit * k.roots) r (omega (arith, q.0, q.1)) (sym e)
+read_told (Err r) (Err s) p q e = ap Err (refusals_told r s p q e)
 
 -- ---- equal numbers are equal replies
 
-pub analysis_told : (t u : Table) (v w : ℕ) → analysed_code (analysed ours t v) ≡ analysed_code (analysed ours u w) → analysed ours t v ≡ analysed ours u w
-analysis_told t u v w = analysed_told (analysed ours t v) (analysed ours u w) (analysed_fits t v) (analysed_fits u w)
+pub analysis_told : (t u : Table) (v w : ℕ) → reply_code (analysed ours t v) ≡ reply_code (analysed ours u w) → analysed ours t v ≡ analysed ours u w
+analysis_told t u v w = replies_told (analysed ours t v) (analysed ours u w) (analysed_fits t v) (analysed_fits u w)
 
 pub listing_told :
-    (t u : Table) (v w a b : ℕ) → listed_code (listed ours t v a) ≡ listed_code (listed ours u w b) → listed ours t v a ≡ listed ours u w b
-listing_told t u v w a b = listed_told (listed ours t v a) (listed ours u w b) (listed_fits t v a) (listed_fits u w b)
+    (t u : Table) (v w a b : ℕ) → reply_code (listed ours t v a) ≡ reply_code (listed ours u w b) → listed ours t v a ≡ listed ours u w b
+listing_told t u v w a b = replies_told (listed ours t v a) (listed ours u w b) (listed_fits t v a) (listed_fits u w b)
 
 pub reading_told :
     (R P Q S : ℕ) (a b : List ℕ) → read_code (reply_of (read_sheet ours R P a)) ≡ read_code (reply_of (read_sheet ours Q S b))
@@ -228,11 +210,12 @@ reading_told R P Q S a b =
 -- A number below the unit of a refusal is that of rows and, above them, procedures.
 pub stored_of_code :
     (R P : ℕ) (bytes : List ℕ) (k : ℕ) → k ≡ read_code (reply_of (read_sheet ours R P bytes)) → k < number_unit
-    → reply_of (read_sheet ours R P bytes) ≡ read.Stored (k % procs_unit) (k / procs_unit)
+    → reply_of (read_sheet ours R P bytes) ≡ Ok (record { rows = k % procs_unit; roots = k / procs_unit })
 stored_of_code R P bytes k e h = go (reply_of (read_sheet ours R P bytes)) (read_fits R P bytes) e
   where
-    go : (x : Read) → FitsRead x → k ≡ read_code x → x ≡ read.Stored (k % procs_unit) (k / procs_unit)
-    go (read.Stored n m) fits c =
-        let rows : n ≡ k % procs_unit = omega (arith, fits.0, fits.1, c) in
-        let roots : m ≡ k / procs_unit = omega (arith, fits.0, fits.1, c) in ap₂ read.Stored rows roots
-    go (read.Refused r) fits c = success_told k r h c
+    go : (x : Result Room Refusal) → FitsRead x → k ≡ read_code x → x ≡ Ok (record { rows = k % procs_unit; roots = k / procs_unit })
+    go (Ok n) fits c =
+        let rows : n.rows ≡ k % procs_unit = omega (arith, fits.0, fits.1, c) in
+        let roots : n.roots ≡ k / procs_unit = omega (arith, fits.0, fits.1, c) in
+        ap₂ (λ (i j : ℕ). Ok (record { rows = i; roots = j })) rows roots
+    go (Err r) fits c = success_told k r h c

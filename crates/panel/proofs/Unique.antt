@@ -20,7 +20,7 @@ use Rattle.listing.specs.Replies.{listed, matrix_listed, bytes_listed}
 use Rattle.table.specs.Reading.{rows_of, roots_of, reply_of}
 use Rattle.records.specs.Records.{read_records}
 use Rattle.writer.specs.Replies.{written, bytes_written}
-use Rattle.panel.specs.Codes.{analysed_code, read_code, listed_code, written_code}
+use Rattle.panel.specs.Codes.{reply_code, read_code}
 use Rattle.panel.proofs.bushkalote_analyse.Reads.{Post as analyse-post}
 use Rattle.panel.proofs.bushkalote_read_sheet.Reads.{Post as read-sheet-post}
 use Rattle.panel.proofs.bushkalote_list_pairs.Reads.{Post as list-pairs-post}
@@ -53,7 +53,7 @@ write_sheet_determined κs a r r' s s' p q = (p.0 ∙ sym q.0, p.1 ∙ sym q.1)
 -- The number n for these rows, these roots and the matrix m, and the matrix m' after it.
 abbrev pub Analyses : List Row → List ℕ → List ℕ → ℕ → List ℕ → Type 0
 Analyses rows roots m n m' =
-    let t = table_of_rows rows roots in (n ≡ analysed_code (analysed ours t (length m))) × (m' ≡ matrix_after ours t m)
+    let t = table_of_rows rows roots in (n ≡ reply_code (analysed ours t (length m))) × (m' ≡ matrix_after ours t m)
 
 -- The number n for a sheet's bytes, these rows and these roots, and the rows and the roots after it.
 abbrev pub Reads : List ℕ → List Row → List ℕ → ℕ → List Row → List ℕ → Type 0
@@ -65,14 +65,14 @@ Reads bytes rows roots n rows' roots' =
 abbrev pub Lists : List Row → List ℕ → List ℕ → List ℕ → ℕ → List ℕ → List ℕ → Type 0
 Lists rows roots m b n m' b' =
     let t = table_of_rows rows roots in
-    (n ≡ listed_code (listed ours t (length m) (length b)))
+    (n ≡ reply_code (listed ours t (length m) (length b)))
     × (m' ≡ matrix_listed ours t m (length b))
     × (b' ≡ bytes_listed ours t (length m) b)
 
 -- The number n for these rows, these roots and the bytes b, and the bytes b' after it.
 abbrev pub Writes : List Row → List ℕ → List ℕ → ℕ → List ℕ → Type 0
 Writes rows roots b n b' =
-    let t = table_of_rows rows roots in (n ≡ written_code (written ours t (length b))) × (b' ≡ bytes_written ours t b)
+    let t = table_of_rows rows roots in (n ≡ reply_code (written ours t (length b))) × (b' ≡ bytes_written ours t b)
 
 -- They are the clauses of the contracts, word for word.
 module _ {M : Type 1} {𝓤 : Ura M} (𝓛 : Logic 𝓤) (mem : Memory → SProp 𝓤) (run : Routine → Fun 𝓤) where

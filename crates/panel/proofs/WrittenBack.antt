@@ -9,6 +9,7 @@ use native.Mathlib.Decide.{ℕ_discrete}
 use native.Mathlib.Omega.{arith}
 use borrow.Author.Tests.{not-false}
 use lib.ListN.{length}
+use Rattle.std.specs.Prelude.{Result, Ok, Err}
 use Rattle.numbers.specs.Refusals.{refusal_number, refusal_place}
 use Rattle.numbers.specs.Sizes.{ours}
 use Rattle.numbers.specs.declared.ProcNumber.{ProcNumber}
@@ -21,13 +22,11 @@ use Rattle.recipe.specs.Rules.{kind_rule}
 use Rattle.recipe.specs.Tables.{Table, rows, procs}
 use Rattle.writer.specs.Replies.{written}
 use Rattle.writer.specs.Rules.{operand_rule, root_rule, room_rule, writer_rules}
-use Rattle.writer.specs.declared.Written.{Written}
-use Rattle.writer.specs.declared.Written.TheVariants as reply
 use Rattle.writer.proofs.Judging.{WritableSizes, sized, sizes_pass}
 use Rattle.writer.proofs.Refusing.{written_refused_means, length_exact, row_told, root_told}
 use Rattle.writer.proofs.RoundTrips.{table_keeps}
 use Rattle.writer.proofs.Sizes.{sheet_short}
-use Rattle.panel.specs.Codes.{number_unit, written_code}
+use Rattle.panel.specs.Codes.{number_unit, reply_code}
 use Rattle.panel.proofs.ReadBack.{halves_told, success_told}
 
 module _ (t : Table) where
@@ -47,18 +46,18 @@ module _ (t : Table) where
   near_place room (Refuses.later none o) =
       past_sizes room (sized ours (rows t) (length t.xs) (length t.ys) (procs t) (not-false (sizes_pass ours t) (none 0 (omega arith)))) o
 
-  near_length : (room n : ℕ) → written ours t room ≡ reply.Length n → n < number_unit
+  near_length : (room n : ℕ) → written ours t room ≡ Ok n → n < number_unit
   near_length room n e = omega (arith, (length_exact ours t room n e).0, sheet_short t (table_keeps ours t room n e))
 
   -- ---- 15 of a row and 15 of a procedure
 
-  not_both : (a b : ℕ) (i : RowNumber) (f : ProcNumber) → written ours t a ≡ reply.Refused (LongOperand i) → written ours t b ≡ reply.Refused (LongRoot f) → ⊥
+  not_both : (a b : ℕ) (i : RowNumber) (f : ProcNumber) → written ours t a ≡ Err (LongOperand i) → written ours t b ≡ Err (LongRoot f) → ⊥
   not_both a b i f e g =
       let row = row_told ours t a i e in
       let short = (root_told ours t b f g).2 i.0 row.0 in
       ⊎_elim (λ h. omega (arith, h, short.0)) (λ h. omega (arith, h, short.1)) row.1
 
-  module _ (a b : ℕ) (r s : Refusal) (e : written ours t a ≡ reply.Refused r) (f : written ours t b ≡ reply.Refused s)
+  module _ (a b : ℕ) (r s : Refusal) (e : written ours t a ≡ Err r) (f : written ours t b ≡ Err s)
       (same_place : refusal_place r ≡ refusal_place s) where
     both_fifteen : refusal_number r ≡ 15 → refusal_number s ≡ 15 → r ≡ s
     both_fifteen p q = go (fifteen_is r p) (fifteen_is s q)
@@ -67,8 +66,8 @@ module _ (t : Table) where
             (r ≡ LongOperand (record { 0 = refusal_place r })) ⊎ (r ≡ LongRoot (record { 0 = refusal_place r }))
             → (s ≡ LongOperand (record { 0 = refusal_place s })) ⊎ (s ≡ LongRoot (record { 0 = refusal_place s })) → r ≡ s
         go (inl x) (inl y) = x ∙ ap (λ (k : ℕ). LongOperand (record { 0 = k })) same_place ∙ sym y
-        go (inl x) (inr y) = absurd (not_both a b _ _ (e ∙ ap reply.Refused x) (f ∙ ap reply.Refused y))
-        go (inr x) (inl y) = absurd (not_both b a _ _ (f ∙ ap reply.Refused y) (e ∙ ap reply.Refused x))
+        go (inl x) (inr y) = absurd (not_both a b _ _ (e ∙ ap Err x) (f ∙ ap Err y))
+        go (inr x) (inl y) = absurd (not_both b a _ _ (f ∙ ap Err y) (e ∙ ap Err x))
         go (inr x) (inr y) = x ∙ ap (λ (k : ℕ). LongRoot (record { 0 = k })) same_place ∙ sym y
 
     refusals_told : refusal_number r ≡ refusal_number s → r ≡ s
@@ -79,22 +78,22 @@ module _ (t : Table) where
         by_number (no p) = refusal_determined r s n same_place p
 
   -- Equal numbers are equal replies to the table, whatever the room.
-  pub writing_told : (a b : ℕ) → written_code (written ours t a) ≡ written_code (written ours t b) → written ours t a ≡ written ours t b
+  pub writing_told : (a b : ℕ) → reply_code (written ours t a) ≡ reply_code (written ours t b) → written ours t a ≡ written ours t b
   writing_told a b same = go (written ours t a) refl (written ours t b) refl same
     where
-      go : (x : Written) → written ours t a ≡ x → (y : Written) → written ours t b ≡ y → written_code x ≡ written_code y → x ≡ y
-      go (reply.Length n) e (reply.Length m) f c = ap reply.Length c
-      go (reply.Length n) e (reply.Refused s) f c = success_told n s (near_length a n e) c
-      go (reply.Refused r) e (reply.Length m) f c = success_told m r (near_length b m f) (sym c)
-      go (reply.Refused r) e (reply.Refused s) f c =
+      go : (x : Result ℕ Refusal) → written ours t a ≡ x → (y : Result ℕ Refusal) → written ours t b ≡ y → reply_code x ≡ reply_code y → x ≡ y
+      go (Ok n) e (Ok m) f c = ap Ok c
+      go (Ok n) e (Err s) f c = success_told n s (near_length a n e) c
+      go (Err r) e (Ok m) f c = success_told m r (near_length b m f) (sym c)
+      go (Err r) e (Err s) f c =
           let halves =
           halves_told r s (near_place a (written_refused_means ours t a r e)) (near_place b (written_refused_means ours t b s f)) c
-          in ap reply.Refused (refusals_told a b r s e f halves.1 halves.0)
+          in ap Err (refusals_told a b r s e f halves.1 halves.0)
 
   -- A number below the unit is a sheet's length.
-  pub length_of_code : (room n : ℕ) → n ≡ written_code (written ours t room) → n < number_unit → written ours t room ≡ reply.Length n
+  pub length_of_code : (room n : ℕ) → n ≡ reply_code (written ours t room) → n < number_unit → written ours t room ≡ Ok n
   length_of_code room n e h = go (written ours t room) e
     where
-      go : (x : Written) → n ≡ written_code x → x ≡ reply.Length n
-      go (reply.Length m) c = ap reply.Length (sym c)
-      go (reply.Refused r) c = success_told n r h c
+      go : (x : Result ℕ Refusal) → n ≡ reply_code x → x ≡ Ok n
+      go (Ok m) c = ap Ok (sym c)
+      go (Err r) c = success_told n r h c

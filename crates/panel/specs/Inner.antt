@@ -1,10 +1,10 @@
 -- Only the contracts of inner functions speak of this: the readings whose numbers of rows and procedures a code has room for.
-use Rattle.std.specs.Prelude.{◌≤◌}
+use Rattle.std.specs.Prelude.{◌≤◌, Result, Ok, Err}
 use Rattle.numbers.specs.Sizes.{ours, row_ceiling}
-use Rattle.table.specs.declared.Read.{Read}
-use Rattle.table.specs.declared.Read.TheVariants as read
+use Rattle.numbers.specs.declared.Refusal.{Refusal}
+use Rattle.table.specs.declared.Room.{Room}
 
 -- A reading that the ceilings allow.
-abbrev pub WithinCeilings : Read → Type 0
-WithinCeilings (read.Stored rows procs) = (rows ≤ row_ceiling) × (procs ≤ ours.procs)
-WithinCeilings (read.Refused r) = Unit {0}
+abbrev pub WithinCeilings : Result Room Refusal → Type 0
+WithinCeilings (Ok kept) = (kept.rows ≤ row_ceiling) × (kept.roots ≤ ours.procs)
+WithinCeilings (Err r) = Unit {0}

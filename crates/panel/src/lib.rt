@@ -1,4 +1,5 @@
-// The way in from C: each entry on plain slices and on a slice of row records. A reply is one number (panel.h). `panel_c` exports the entries.
+// The way in from C: each entry on plain slices and on a slice of row records. A reply is one number (panel.h). `panel_c` exports the entries:
+// a crate is a library, on which theorems stand, or a static library.
 #![tactic(auto)]
 
 ghost use Rattle.std.specs.Prelude.{◌≡◌, length};
@@ -12,15 +13,12 @@ ghost use Rattle.table.specs.Reading.{rows_of, roots_of, reply_of};
 ghost use Rattle.sheet.specs.Reading.{read_into};
 ghost use Rattle.records.specs.Records.{read_records};
 ghost use Rattle.writer.specs.Replies.{written, bytes_written};
-ghost use Rattle.panel.specs.Codes.{refusal_code, analysed_code, read_code, listed_code, written_code};
+ghost use Rattle.panel.specs.Codes.{refusal_code, reply_code, read_code};
 ghost use Rattle.panel.specs.Inner.{WithinCeilings};
 
-use analysis::Analysed;
-use listing::Listed;
 use numbers::Refusal;
-use recipe::Row;
-use table::Read;
-use writer::Written;
+use recipe::{Row, Table};
+use table::Room;
 
 // A refusal's number counts in units of 2^32, and so stands above every place, count and length.
 const NUMBER_UNIT: u64 = 4294967296;
@@ -35,44 +33,21 @@ fn refusal_code(r: Refusal) -> u64
     (r.number() as u64) * NUMBER_UNIT + (r.place() as u64)
 }
 
-// A reply of the analysis as one number.
-fn analysed_code(reply: Analysed) -> u64
-    ensures { result ≡ analysed_code reply }
+// A reply whose success is a number, as one number.
+fn reply_code(reply: Result<u64, Refusal>) -> u64
+    ensures { result ≡ reply_code reply }
 {
-    match reply {
-        Analysed::Rounds(k) => k as u64,
-        Analysed::Refused(r) => refusal_code(r),
-    }
+    reply.unwrap_or_else(refusal_code)
 }
 
 // A reply of the reader as one number.
-fn read_code(reply: Read) -> u64
+fn read_code(reply: Result<Room, Refusal>) -> u64
     requires { WithinCeilings reply }
     ensures { result ≡ read_code reply }
 {
     match reply {
-        Read::Stored(rows, procs) => (rows as u64) + PROCS_UNIT * (procs as u64),
-        Read::Refused(r) => refusal_code(r),
-    }
-}
-
-// A reply of the listing as one number.
-fn listed_code(reply: Listed) -> u64
-    ensures { result ≡ listed_code reply }
-{
-    match reply {
-        Listed::Length(n) => n as u64,
-        Listed::Refused(r) => refusal_code(r),
-    }
-}
-
-// A reply of the writer as one number.
-fn written_code(reply: Written) -> u64
-    ensures { result ≡ written_code reply }
-{
-    match reply {
-        Written::Length(n) => n as u64,
-        Written::Refused(r) => refusal_code(r),
+        Ok(kept) => (kept.rows as u64) + PROCS_UNIT * (kept.roots as u64),
+        Err(why) => refusal_code(why),
     }
 }
 
@@ -85,11 +60,17 @@ pub fn bushkalote_analyse(
     matrix: &mut [u64],
 ) -> u64
     ensures reply { let t = table_of kinds.now xs.now ys.now roots.now in
-        result ≡ analysed_code (analysed ours t (length matrix.old)) }
+        result ≡ reply_code (analysed ours t (length matrix.old)) }
     ensures pairs { let t = table_of kinds.now xs.now ys.now roots.now in
         matrix.new ≡ matrix_after ours t matrix.old }
 {
-    analysed_code(analysis::analyse(kinds, xs, ys, roots, matrix))
+    let table = Table {
+        kinds,
+        xs,
+        ys,
+        roots,
+    };
+    reply_code(analysis::analyse(&table, matrix).map(u64::from))
 }
 
 // The reader, for a caller in C.
@@ -120,13 +101,19 @@ pub fn bushkalote_list_pairs(
     bytes: &mut [u8],
 ) -> u64
     ensures reply { let t = table_of kinds.now xs.now ys.now roots.now in
-        result ≡ listed_code (listed ours t (length matrix.old) (length bytes.old)) }
+        result ≡ reply_code (listed ours t (length matrix.old) (length bytes.old)) }
     ensures pairs { let t = table_of kinds.now xs.now ys.now roots.now in
         matrix.new ≡ matrix_listed ours t matrix.old (length bytes.old) }
     ensures text { let t = table_of kinds.now xs.now ys.now roots.now in
         bytes.new ≡ bytes_listed ours t (length matrix.old) bytes.old }
 {
-    listed_code(listing::list_pairs(kinds, xs, ys, roots, matrix, bytes))
+    let table = Table {
+        kinds,
+        xs,
+        ys,
+        roots,
+    };
+    reply_code(listing::list_pairs(&table, matrix, bytes).map(|n| n as u64))
 }
 
 // The writer, for a caller in C.
@@ -138,20 +125,26 @@ pub fn bushkalote_write_sheet(
     bytes: &mut [u8],
 ) -> u64
     ensures reply { let t = table_of kinds.now xs.now ys.now roots.now in
-        result ≡ written_code (written ours t (length bytes.old)) }
+        result ≡ reply_code (written ours t (length bytes.old)) }
     ensures text { let t = table_of kinds.now xs.now ys.now roots.now in
         bytes.new ≡ bytes_written ours t bytes.old }
 {
-    written_code(writer::write_sheet(kinds, xs, ys, roots, bytes))
+    let table = Table {
+        kinds,
+        xs,
+        ys,
+        roots,
+    };
+    reply_code(writer::write_sheet(&table, bytes).map(|n| n as u64))
 }
 
 // The analysis on row records, for a caller in C.
 pub fn bushkalote_analyse_rows(rows: &[Row], roots: &[u16], matrix: &mut [u64]) -> u64
     ensures { let t = table_of_rows rows.now roots.now in
-        (result ≡ analysed_code (analysed ours t (length matrix.old)))
+        (result ≡ reply_code (analysed ours t (length matrix.old)))
         × (matrix.new ≡ matrix_after ours t matrix.old) }
 {
-    analysed_code(records::analyse_rows(rows, roots, matrix))
+    reply_code(records::analyse_rows(rows, roots, matrix).map(u64::from))
 }
 
 // The reader into row records, for a caller in C.
@@ -172,18 +165,18 @@ pub fn bushkalote_list_rows(
     bytes: &mut [u8],
 ) -> u64
     ensures { let t = table_of_rows rows.now roots.now in
-        (result ≡ listed_code (listed ours t (length matrix.old) (length bytes.old)))
+        (result ≡ reply_code (listed ours t (length matrix.old) (length bytes.old)))
         × (matrix.new ≡ matrix_listed ours t matrix.old (length bytes.old))
         × (bytes.new ≡ bytes_listed ours t (length matrix.old) bytes.old) }
 {
-    listed_code(records::list_rows(rows, roots, matrix, bytes))
+    reply_code(records::list_rows(rows, roots, matrix, bytes).map(|n| n as u64))
 }
 
 // The writer from row records, for a caller in C.
 pub fn bushkalote_write_rows(rows: &[Row], roots: &[u16], bytes: &mut [u8]) -> u64
     ensures { let t = table_of_rows rows.now roots.now in
-        (result ≡ written_code (written ours t (length bytes.old)))
+        (result ≡ reply_code (written ours t (length bytes.old)))
         × (bytes.new ≡ bytes_written ours t bytes.old) }
 {
-    written_code(writer::write_rows(rows, roots, bytes))
+    reply_code(writer::write_rows(rows, roots, bytes).map(|n| n as u64))
 }

@@ -12,7 +12,7 @@ ghost use Rattle.table.specs.Reading.{rows_of, roots_of, reply_of};
 ghost use Rattle.sheet.specs.Reading.{read_into};
 ghost use Rattle.records.specs.Records.{read_records};
 ghost use Rattle.writer.specs.Replies.{written, bytes_written};
-ghost use Rattle.panel.specs.Codes.{refusal_code, analysed_code, read_code, listed_code, written_code};
+ghost use Rattle.panel.specs.Codes.{refusal_code, reply_code, read_code};
 
 use recipe::Row;
 
@@ -26,7 +26,7 @@ pub extern "C" fn bushkalote_analyse(
     matrix: &mut [u64],
 ) -> u64
     ensures reply { let t = table_of kinds.now xs.now ys.now roots.now in
-        result ≡ analysed_code (analysed ours t (length matrix.old)) }
+        result ≡ reply_code (analysed ours t (length matrix.old)) }
     ensures pairs { let t = table_of kinds.now xs.now ys.now roots.now in
         matrix.new ≡ matrix_after ours t matrix.old }
 {
@@ -63,7 +63,7 @@ pub extern "C" fn bushkalote_list_pairs(
     bytes: &mut [u8],
 ) -> u64
     ensures reply { let t = table_of kinds.now xs.now ys.now roots.now in
-        result ≡ listed_code (listed ours t (length matrix.old) (length bytes.old)) }
+        result ≡ reply_code (listed ours t (length matrix.old) (length bytes.old)) }
     ensures pairs { let t = table_of kinds.now xs.now ys.now roots.now in
         matrix.new ≡ matrix_listed ours t matrix.old (length bytes.old) }
     ensures text { let t = table_of kinds.now xs.now ys.now roots.now in
@@ -82,7 +82,7 @@ pub extern "C" fn bushkalote_write_sheet(
     bytes: &mut [u8],
 ) -> u64
     ensures reply { let t = table_of kinds.now xs.now ys.now roots.now in
-        result ≡ written_code (written ours t (length bytes.old)) }
+        result ≡ reply_code (written ours t (length bytes.old)) }
     ensures text { let t = table_of kinds.now xs.now ys.now roots.now in
         bytes.new ≡ bytes_written ours t bytes.old }
 {
@@ -93,7 +93,7 @@ pub extern "C" fn bushkalote_write_sheet(
 #[unsafe(no_mangle)]
 pub extern "C" fn bushkalote_analyse_rows(rows: &[Row], roots: &[u16], matrix: &mut [u64]) -> u64
     ensures { let t = table_of_rows rows.now roots.now in
-        (result ≡ analysed_code (analysed ours t (length matrix.old)))
+        (result ≡ reply_code (analysed ours t (length matrix.old)))
         × (matrix.new ≡ matrix_after ours t matrix.old) }
 {
     panel::bushkalote_analyse_rows(rows, roots, matrix)
@@ -119,7 +119,7 @@ pub extern "C" fn bushkalote_list_rows(
     bytes: &mut [u8],
 ) -> u64
     ensures { let t = table_of_rows rows.now roots.now in
-        (result ≡ listed_code (listed ours t (length matrix.old) (length bytes.old)))
+        (result ≡ reply_code (listed ours t (length matrix.old) (length bytes.old)))
         × (matrix.new ≡ matrix_listed ours t matrix.old (length bytes.old))
         × (bytes.new ≡ bytes_listed ours t (length matrix.old) bytes.old) }
 {
@@ -130,7 +130,7 @@ pub extern "C" fn bushkalote_list_rows(
 #[unsafe(no_mangle)]
 pub extern "C" fn bushkalote_write_rows(rows: &[Row], roots: &[u16], bytes: &mut [u8]) -> u64
     ensures { let t = table_of_rows rows.now roots.now in
-        (result ≡ written_code (written ours t (length bytes.old)))
+        (result ≡ reply_code (written ours t (length bytes.old)))
         × (bytes.new ≡ bytes_written ours t bytes.old) }
 {
     panel::bushkalote_write_rows(rows, roots, bytes)

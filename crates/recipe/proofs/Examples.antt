@@ -11,7 +11,7 @@ use Rattle.recipe.specs.Tables.{Table, table_of}
 use Rattle.recipe.specs.Rules.{sizes_right, operands_right, uses_by, judged_by, judged, IsAdmitted}
 use Rattle.recipe.specs.Statements.{row_statement, statement_to, statement_at, program_of}
 use Rattle.numbers.specs.declared.Refusal.TheVariants.{Sizes, UnknownKind, WrongOperand, NoSuchRow, UsedAgain, Unused}
-use Rattle.recipe.specs.declared.Judged.TheVariants.{Refused}
+use Rattle.std.specs.Prelude.{Err}
 
 -- A table of one row, which is main.
 abbrev one : ℕ → ℕ → ℕ → Table
@@ -24,28 +24,28 @@ two kind x y root = table_of (0 ∷ kind ∷ []) (0 ∷ x ∷ []) (0 ∷ y ∷ [
 -- The limits: labels end below the ceiling, children stand below their row, calls name a procedure, operands without use are 0.
 limits :
     IsAdmitted ours (one 1 63 0)
-    × (judged ours (one 1 64 0) ≡ Refused (WrongOperand (record { 0 = 0 })))
+    × (judged ours (one 1 64 0) ≡ Err (WrongOperand (record { 0 = 0 })))
     × IsAdmitted ours (one 6 0 0)
-    × (judged ours (one 6 1 0) ≡ Refused (WrongOperand (record { 0 = 0 })))
-    × (judged ours (one 0 0 1) ≡ Refused (WrongOperand (record { 0 = 0 })))
-    × (judged ours (one 7 0 0) ≡ Refused (UnknownKind (record { 0 = 0 })))
+    × (judged ours (one 6 1 0) ≡ Err (WrongOperand (record { 0 = 0 })))
+    × (judged ours (one 0 0 1) ≡ Err (WrongOperand (record { 0 = 0 })))
+    × (judged ours (one 7 0 0) ≡ Err (UnknownKind (record { 0 = 0 })))
     × IsAdmitted ours (two 3 0 0 1)
-    × (judged ours (two 3 1 0 1) ≡ Refused (WrongOperand (record { 0 = 1 })))
-    × (judged ours (two 3 0 0 2) ≡ Refused (NoSuchRow (record { 0 = 0 })))
-    × (judged ours (two 2 0 0 1) ≡ Refused (UsedAgain (record { 0 = 0 })))
-    × (judged ours (two 0 0 0 1) ≡ Refused (Unused (record { 0 = 0 })))
-    × (judged ours (table_of [] [] [] []) ≡ Refused Sizes)
-    × (judged ours (table_of (0 ∷ []) [] (0 ∷ []) (0 ∷ [])) ≡ Refused Sizes)
+    × (judged ours (two 3 1 0 1) ≡ Err (WrongOperand (record { 0 = 1 })))
+    × (judged ours (two 3 0 0 2) ≡ Err (NoSuchRow (record { 0 = 0 })))
+    × (judged ours (two 2 0 0 1) ≡ Err (UsedAgain (record { 0 = 0 })))
+    × (judged ours (two 0 0 0 1) ≡ Err (Unused (record { 0 = 0 })))
+    × (judged ours (table_of [] [] [] []) ≡ Err Sizes)
+    × (judged ours (table_of (0 ∷ []) [] (0 ∷ []) (0 ∷ [])) ≡ Err Sizes)
 unfolding judged judged_by lowest sizes_right operands_right uses_by sum_below
 limits = (refl, refl, refl, refl, refl, refl, refl, refl, refl, refl, refl, refl, refl)
 
 -- Where two rules are broken the first of the list decides, wherever the other is broken: here the operand of row 0 and the kind of row 1.
-order : judged ours (table_of (0 ∷ 7 ∷ []) (1 ∷ 0 ∷ []) (0 ∷ 0 ∷ []) (0 ∷ [])) ≡ Refused (UnknownKind (record { 0 = 1 }))
+order : judged ours (table_of (0 ∷ 7 ∷ []) (1 ∷ 0 ∷ []) (0 ∷ 0 ∷ []) (0 ∷ [])) ≡ Err (UnknownKind (record { 0 = 1 }))
 unfolding judged judged_by lowest sizes_right operands_right uses_by sum_below
 order = refl
 
 -- Of two rows that break a rule the lower one is named.
-lower : judged ours (table_of (0 ∷ 0 ∷ []) (1 ∷ 1 ∷ []) (0 ∷ 0 ∷ []) (0 ∷ [])) ≡ Refused (WrongOperand (record { 0 = 0 }))
+lower : judged ours (table_of (0 ∷ 0 ∷ []) (1 ∷ 1 ∷ []) (0 ∷ 0 ∷ []) (0 ∷ [])) ≡ Err (WrongOperand (record { 0 = 0 }))
 unfolding judged judged_by lowest sizes_right operands_right uses_by sum_below
 lower = refl
 
@@ -63,22 +63,22 @@ ceilings = (refl, refl, refl, refl, refl, refl, refl)
 
 -- A second operand where there is none, for each kind that has none.
 second_operands :
-    (judged ours (one 0 0 1) ≡ Refused (WrongOperand (record { 0 = 0 })))
-    × (judged ours (one 1 0 1) ≡ Refused (WrongOperand (record { 0 = 0 })))
-    × (judged ours (two 3 0 1 1) ≡ Refused (WrongOperand (record { 0 = 1 })))
-    × (judged ours (two 4 0 1 1) ≡ Refused (WrongOperand (record { 0 = 1 })))
-    × (judged ours (two 5 0 1 1) ≡ Refused (WrongOperand (record { 0 = 1 })))
-    × (judged ours (one 6 0 1) ≡ Refused (WrongOperand (record { 0 = 0 })))
+    (judged ours (one 0 0 1) ≡ Err (WrongOperand (record { 0 = 0 })))
+    × (judged ours (one 1 0 1) ≡ Err (WrongOperand (record { 0 = 0 })))
+    × (judged ours (two 3 0 1 1) ≡ Err (WrongOperand (record { 0 = 1 })))
+    × (judged ours (two 4 0 1 1) ≡ Err (WrongOperand (record { 0 = 1 })))
+    × (judged ours (two 5 0 1 1) ≡ Err (WrongOperand (record { 0 = 1 })))
+    × (judged ours (one 6 0 1) ≡ Err (WrongOperand (record { 0 = 0 })))
 unfolding judged judged_by lowest sizes_right operands_right uses_by sum_below
 second_operands = (refl, refl, refl, refl, refl, refl)
 
 -- Each rule is tried before the next: of two neighbours that are both broken the first decides.
 neighbours :
-    (judged ours (table_of (7 ∷ []) [] (0 ∷ []) (0 ∷ [])) ≡ Refused Sizes)
-    × (judged ours (one 7 64 0) ≡ Refused (UnknownKind (record { 0 = 0 })))
-    × (judged ours (table_of (1 ∷ []) (64 ∷ []) (0 ∷ []) (1 ∷ [])) ≡ Refused (WrongOperand (record { 0 = 0 })))
-    × (judged ours (two 2 0 0 2) ≡ Refused (NoSuchRow (record { 0 = 0 })))
-    × (judged ours (table_of (0 ∷ 0 ∷ 2 ∷ []) (0 ∷ 0 ∷ 1 ∷ []) (0 ∷ 0 ∷ 1 ∷ []) (2 ∷ [])) ≡ Refused (UsedAgain (record { 0 = 1 })))
+    (judged ours (table_of (7 ∷ []) [] (0 ∷ []) (0 ∷ [])) ≡ Err Sizes)
+    × (judged ours (one 7 64 0) ≡ Err (UnknownKind (record { 0 = 0 })))
+    × (judged ours (table_of (1 ∷ []) (64 ∷ []) (0 ∷ []) (1 ∷ [])) ≡ Err (WrongOperand (record { 0 = 0 })))
+    × (judged ours (two 2 0 0 2) ≡ Err (NoSuchRow (record { 0 = 0 })))
+    × (judged ours (table_of (0 ∷ 0 ∷ 2 ∷ []) (0 ∷ 0 ∷ 1 ∷ []) (0 ∷ 0 ∷ 1 ∷ []) (2 ∷ [])) ≡ Err (UsedAgain (record { 0 = 1 })))
 unfolding judged judged_by lowest sizes_right operands_right uses_by sum_below
 neighbours = (refl, refl, refl, refl, refl)
 

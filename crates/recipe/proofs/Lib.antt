@@ -6,6 +6,6 @@ pub mod Admitted
 pub mod Readings
 pub mod Bodies
 pub mod Unique
-pub mod AloneLaws
+pub mod EachRow
 pub mod WithMatrix
 pub mod Offences

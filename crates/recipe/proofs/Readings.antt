@@ -46,36 +46,36 @@ module _ (z : Size) (t : Table) (ok : IsAdmitted z t) where
         ∙ by_children (kind_of (kind_at t i)) (x_at t i) (y_at t i) (statement_to i t) (statement_at t)
         (λ k c. let s : k < i = child_smaller z t ok i l k c in depth_free i (k + 1) k s (omega arith) (omega arith))
 
-    statement_of : (k : ℕ) → kind_at t i ≡ k → statement_at t i ≡ row_statement (kind_of k) (x_at t i) (y_at t i) (statement_at t)
-    statement_of k e = statement_by_row ∙ ap (λ (n : ℕ). row_statement (kind_of n) (x_at t i) (y_at t i) (statement_at t)) e
+    statement_of : (k : Kind) → kind_of (kind_at t i) ≡ k → statement_at t i ≡ row_statement k (x_at t i) (y_at t i) (statement_at t)
+    statement_of k e = statement_by_row ∙ ap (λ (k : Kind). row_statement k (x_at t i) (y_at t i) (statement_at t)) e
 
-    pub statement_skip : kind_at t i ≡ 0 → statement_at t i ≡ Stmt.skip
+    pub statement_skip : kind_of (kind_at t i) ≡ Kind.skip → statement_at t i ≡ Stmt.skip
     unfolding row_statement
-    statement_skip e = statement_of 0 e
+    statement_skip = statement_of Kind.skip
 
-    pub statement_step : kind_at t i ≡ 1 → statement_at t i ≡ Stmt.step (x_at t i)
+    pub statement_step : kind_of (kind_at t i) ≡ Kind.step → statement_at t i ≡ Stmt.step (x_at t i)
     unfolding row_statement
-    statement_step e = statement_of 1 e
+    statement_step = statement_of Kind.step
 
-    pub statement_seq : kind_at t i ≡ 2 → statement_at t i ≡ Stmt.seq (statement_at t (x_at t i)) (statement_at t (y_at t i))
+    pub statement_seq : kind_of (kind_at t i) ≡ Kind.seq → statement_at t i ≡ Stmt.seq (statement_at t (x_at t i)) (statement_at t (y_at t i))
     unfolding row_statement
-    statement_seq e = statement_of 2 e
+    statement_seq = statement_of Kind.seq
 
-    pub statement_loop : kind_at t i ≡ 3 → statement_at t i ≡ Stmt.loop (statement_at t (x_at t i))
+    pub statement_loop : kind_of (kind_at t i) ≡ Kind.loop → statement_at t i ≡ Stmt.loop (statement_at t (x_at t i))
     unfolding row_statement
-    statement_loop e = statement_of 3 e
+    statement_loop = statement_of Kind.loop
 
-    pub statement_async : kind_at t i ≡ 4 → statement_at t i ≡ Stmt.async (statement_at t (x_at t i))
+    pub statement_async : kind_of (kind_at t i) ≡ Kind.async → statement_at t i ≡ Stmt.async (statement_at t (x_at t i))
     unfolding row_statement
-    statement_async e = statement_of 4 e
+    statement_async = statement_of Kind.async
 
-    pub statement_finish : kind_at t i ≡ 5 → statement_at t i ≡ Stmt.finish (statement_at t (x_at t i))
+    pub statement_finish : kind_of (kind_at t i) ≡ Kind.finish → statement_at t i ≡ Stmt.finish (statement_at t (x_at t i))
     unfolding row_statement
-    statement_finish e = statement_of 5 e
+    statement_finish = statement_of Kind.finish
 
-    pub statement_call : kind_at t i ≡ 6 → statement_at t i ≡ Stmt.call (x_at t i)
+    pub statement_call : kind_of (kind_at t i) ≡ Kind.call → statement_at t i ≡ Stmt.call (x_at t i)
     unfolding row_statement
-    statement_call e = statement_of 6 e
+    statement_call = statement_of Kind.call
 
 -- A program has as many bodies as the table has procedures.
 pub program_length : (t : Table) → length (program_of t) ≡ procs t

@@ -1,12 +1,10 @@
 -- The rules of a table of some size, and the order in which they are tried.
-use Rattle.std.specs.Prelude.{ℕ, ◌+◌, ◌≡◌, Bool, false, cond, not, ◌&&◌, List, [], ◌∷◌, length, eqb, ltb, leb}
+use Rattle.std.specs.Prelude.{ℕ, ◌+◌, ◌≡◌, Bool, false, cond, not, ◌&&◌, List, [], ◌∷◌, length, eqb, ltb, leb, Result, Ok, Err}
 use Rattle.numbers.specs.General.{one_if, sum_below, lowest}
 use Rattle.numbers.specs.Sizes.{Size, row_ceiling, label_ceiling, matrix_words}
 use Rattle.recipe.specs.Tables.{Table, Kind, kind_of, rows, procs, kind_at, x_at, y_at, root_at}
 use Rattle.numbers.specs.declared.Refusal.{Refusal}
 use Rattle.numbers.specs.declared.Refusal.TheVariants.{Sizes, ShortMatrix, UnknownKind, WrongOperand, NoSuchRow, UsedAgain, Unused}
-use Rattle.recipe.specs.declared.Judged.{Judged}
-use Rattle.recipe.specs.declared.Judged.TheVariants.{Admitted, Refused}
 
 -- Whether n lies from 1 to the ceiling.
 abbrev pub from_one_to : ℕ → ℕ → Bool
@@ -121,20 +119,20 @@ abbrev pub rules_with : Size → Table → ℕ → List Rule
 rules_with z t words = sizes_rule z t ∷ matrix_rule z words ∷ further_rules z t
 
 -- The reply where rules are tried one after the other, each over all its places: the first that is broken refuses its lowest place.
-unfoldable pub judged_by : List Rule → Judged
-judged_by [] = Admitted
+unfoldable pub judged_by : List Rule → Result Unit Refusal
+judged_by [] = Ok tt
 judged_by (r ∷ more) =
     let place = lowest r.places r.breaks in
-    cond (ltb place r.places) (Refused (r.refusal place)) (judged_by more)
+    cond (ltb place r.places) (Err (r.refusal place)) (judged_by more)
 
 -- What the judge replies to a table.
-unfoldable pub judged : Size → Table → Judged
+unfoldable pub judged : Size → Table → Result Unit Refusal
 judged z t = judged_by (rules_of z t)
 
 -- What it replies for whoever is lent a matrix of so many words.
-unfoldable pub judged_with : Size → Table → ℕ → Judged
+unfoldable pub judged_with : Size → Table → ℕ → Result Unit Refusal
 judged_with z t words = judged_by (rules_with z t words)
 
 -- The table is admitted.
 abbrev pub IsAdmitted : Size → Table → Type 0
-IsAdmitted z t = judged z t ≡ Admitted
+IsAdmitted z t = judged z t ≡ Ok tt

@@ -1,11 +1,13 @@
 // How often each row is used: one counter a row, which stops at two.
-ghost use Rattle.std.specs.Prelude.{ℕ, ◌+◌, ◌<◌, ◌≤◌, [], ◌≡◌, eqb, length, get_or};
-ghost use Rattle.numbers.specs.General.{one_if, lowest};
+ghost use Rattle.std.specs.Prelude.{ℕ, ◌<◌, ◌≤◌, ◌≡◌, eqb, length, get_or, MatchOption};
+ghost use Rattle.numbers.specs.General.{one_if, First, Nowhere};
 ghost use Rattle.numbers.specs.Sizes.{row_ceiling};
-ghost use Rattle.recipe.specs.Tables.{kind_of, table_of, rows, procs};
+ghost use Rattle.recipe.specs.Tables.{kind_of, lists_of, rows, procs};
 ghost use Rattle.recipe.specs.Rules.{uses_by, child_uses, root_uses};
-ghost use Rattle.recipe.specs.Inner.{Counts, Counted, ChildrenBelow, rows_alone, roots_alone};
+ghost use Rattle.recipe.specs.Inner.{Counts, Counted, ChildrenBelow};
 
+use crate::rules::SizedTable;
+use crate::{Kind, Table};
 use numbers::RowNumber;
 
 // Counts one use of a row.
@@ -19,67 +21,53 @@ fn count(counts: &mut [u8; RowNumber::CEILING], row: RowNumber)
     }
 }
 
-// Counts the children of one row.
+// Counts the children of one row, whose fields come apart, as the columns have them. Each kind with a child has its arm: of one arm for three the
+// proof would not know which kind it has.
+#[tactic(auto, unfolding(crate::specs::Rules::uses_by))]
 fn count_row(counts: &mut [u8; RowNumber::CEILING], kind: u8, x: u16, y: u16)
     requires { (i : ℕ) → 0 < uses_by (kind_of kind) x y i → i < row_ceiling }
     ensures { Counted counts.old counts.new (uses_by (kind_of kind) x y) }
 {
-    match kind {
-        2 => {
+    match Kind::try_from(kind) {
+        Ok(Kind::Seq) => {
             count(counts, RowNumber(x));
             count(counts, RowNumber(y));
         }
-        3 => count(counts, RowNumber(x)),
-        4 => count(counts, RowNumber(x)),
-        5 => count(counts, RowNumber(x)),
-        _ => {}
+        Ok(Kind::Loop) => count(counts, RowNumber(x)),
+        Ok(Kind::Async) => count(counts, RowNumber(x)),
+        Ok(Kind::Finish) => count(counts, RowNumber(x)),
+        Ok(Kind::Skip | Kind::Step | Kind::Call) | Err(_) => {}
     }
 }
 
 // Counts the children of every row, from counters at 0.
-pub(crate) fn count_children(
-    counts: &mut [u8; RowNumber::CEILING],
-    kinds: &[u8],
-    xs: &[u16],
-    ys: &[u16],
-)
-    requires whole { (length xs.now ≡ length kinds.now) × (length ys.now ≡ length kinds.now) }
-    requires below { ChildrenBelow row_ceiling (rows_alone kinds.now xs.now ys.now) }
+pub(crate) fn count_children(counts: &mut [u8; RowNumber::CEILING], sized: &SizedTable<'_>)
+    requires below { ChildrenBelow row_ceiling (lists_of sized.now.table) }
     requires none { Counts counts.old (λ i. 0) }
-    ensures { let t = rows_alone kinds.now xs.now ys.now in
-        Counts counts.new (child_uses t (rows t)) }
+    ensures { let t = lists_of sized.now.table in Counts counts.new (child_uses t (rows t)) }
 {
-    let mut i = 0;
-    while i < kinds.len() {
-        count_row(counts, kinds[i], xs[i], ys[i]);
-        i += 1;
+    let table = &sized.table;
+    for (i, &kind) in table.kinds.iter().enumerate() {
+        count_row(counts, kind, table.xs[i], table.ys[i]);
     }
 }
 
 // Counts the roots besides.
-pub(crate) fn count_roots(counts: &mut [u8; RowNumber::CEILING], roots: &[u16])
-    requires { (f : ℕ) → f < length roots.now → get_or roots.now f 0 < row_ceiling }
-    ensures { let t = roots_alone roots.now in
-        Counted counts.old counts.new (root_uses t (procs t)) }
+pub(crate) fn count_roots(counts: &mut [u8; RowNumber::CEILING], table: &Table<'_>)
+    requires { (f : ℕ) → f < length table.now.roots.now → get_or table.now.roots.now f 0 < row_ceiling }
+    ensures { let t = lists_of table.now in Counted counts.old counts.new (root_uses t (procs t)) }
 {
-    let mut f = 0;
-    while f < roots.len() {
-        count(counts, RowNumber(roots[f]));
-        f += 1;
+    for &root in table.roots {
+        count(counts, RowNumber(root));
     }
 }
 
-// The lowest of so many rows whose counter stands at `wanted`, or their number where none does.
-pub(crate) fn first_with(counts: &[u8; RowNumber::CEILING], rows: usize, wanted: u8) -> RowNumber
-    requires { rows ≤ row_ceiling }
-    ensures { result.0 ≡ lowest rows (λ i. eqb (get_or counts.now i 0) wanted) }
+// The lowest row whose counter stands at `wanted`.
+pub(crate) fn first_with(counts: &[u8], wanted: u8) -> Option<RowNumber>
+    requires { length counts.now ≤ row_ceiling }
+    ensures { let test = λ (i : ℕ). eqb (get_or counts.now i 0) wanted in
+        MatchOption result (Nowhere (length counts.now) test) (λ row. First (length counts.now) test row.0) }
 {
-    let mut i = 0;
-    while i < rows {
-        if counts[i] == wanted {
-            return RowNumber(i as u16);
-        }
-        i += 1;
-    }
-    RowNumber(i as u16)
+    let at = counts.iter().position(|count| *count == wanted)?;
+    Some(RowNumber(at as u16))
 }

@@ -6,47 +6,48 @@ use mathlib.Core.List.{List, map}
 use Prim.Native.Nat.{ℕ, min}
 use lib.ListN.{length, take, drop, length-map}
 use lib.Seq.{take_at, take-append_seam}
+use Rattle.std.specs.Prelude.{Result}
 use Rattle.numbers.specs.General.{laid}
 use Rattle.numbers.specs.Sizes.{ours}
+use Rattle.numbers.specs.declared.Refusal.{Refusal}
 use Rattle.recipe.specs.Tables.{Table}
 use Rattle.recipe.specs.declared.Row.{Row}
 use Rattle.analysis.specs.Replies.{analysed, matrix_after}
-use Rattle.analysis.specs.declared.Analysed.{Analysed}
 use Rattle.analysis.proofs.analyse.Reads.{Post as analyse-post}
 use Rattle.listing.specs.Replies.{listed, matrix_listed, bytes_listed}
-use Rattle.listing.specs.declared.Listed.{Listed}
 use Rattle.listing.proofs.list_pairs.Reads.{Post as list-pairs-post}
 use Rattle.recipe.specs.Records.{kinds_of, xs_of, ys_of}
 use Rattle.table.specs.Reading.{Reading, rows_of, roots_of, reply_of}
-use Rattle.table.specs.declared.Read.{Read}
+use Rattle.table.specs.declared.Room.{Room}
 use Rattle.table.proofs.CopiedTable.{same_table}
 use Rattle.sheet.specs.Reading.{read_sheet}
 use Rattle.sheet.proofs.read_sheet.Reads.{Post as read-sheet-post}
 use Rattle.records.specs.Records.{read_records}
 use Rattle.records.specs.Inner.{Answers, Lists, Reads}
 
--- `analyse-post` is the contract of the entry on slices, `Answers` that of the entry on records.
+-- `analyse-post` is the contract of the entry on a table in lent slices, `Answers` that of the entry on records.
 pub entries_agree :
-    (κs a r s : _) (rows : List Row) (r' : Analysed) (m' : List ℕ) → analyse-post κs a r s
-    → a.0.now ≡ kinds_of rows → a.1.0.now ≡ xs_of rows → a.1.1.0.now ≡ ys_of rows
-    → Answers ours rows a.1.1.1.0.now a.1.1.1.1.0.now r' m'
-    → (r ≡ r') × (s.1.1.1.1.0.now ≡ m')
+    (κs a r s : _) (rows : List Row) (r' : Result ℕ Refusal) (m' : List ℕ) → analyse-post κs a r s
+    → let t = a.0.now in t.kinds.now ≡ kinds_of rows → t.xs.now ≡ xs_of rows → t.ys.now ≡ ys_of rows
+    → Answers ours rows t.roots.now a.1.0.now r' m'
+    → (r ≡ r') × (s.1.0.now ≡ m')
 entries_agree κs a r s rows r' m' slices p q t records =
-    let same = same_table rows a.0.now a.1.0.now a.1.1.0.now a.1.1.1.0.now p q t in (
-      slices.0 ∙ ap (λ (u : Table). analysed ours u (length a.1.1.1.1.0.now)) same ∙ sym records.0,
-      slices.1 ∙ ap (λ (u : Table). matrix_after ours u a.1.1.1.1.0.now) same ∙ sym records.1,
+    let same = same_table rows a.0.now.kinds.now a.0.now.xs.now a.0.now.ys.now a.0.now.roots.now p q t in
+    let m = a.1.0.now in (
+      slices.0 ∙ ap (λ (u : Table). analysed ours u (length m)) same ∙ sym records.0,
+      slices.1 ∙ ap (λ (u : Table). matrix_after ours u m) same ∙ sym records.1,
     )
 
--- `list-pairs-post` is the contract of the listing on slices, `Lists` that of the listing on records.
+-- `list-pairs-post` is the contract of the listing of a table in lent slices, `Lists` that of the listing on records.
 pub listings_agree :
-    (κs a r s : _) (rows : List Row) (r' : Listed) (m' b' : List ℕ) → list-pairs-post κs a r s
-    → a.0.now ≡ kinds_of rows → a.1.0.now ≡ xs_of rows → a.1.1.0.now ≡ ys_of rows
-    → Lists ours rows a.1.1.1.0.now a.1.1.1.1.0.now a.1.1.1.1.1.0.now r' m' b'
-    → (r ≡ r') × (s.1.1.1.1.0.now ≡ m') × (s.1.1.1.1.1.0.now ≡ b')
+    (κs a r s : _) (rows : List Row) (r' : Result ℕ Refusal) (m' b' : List ℕ) → list-pairs-post κs a r s
+    → let t = a.0.now in t.kinds.now ≡ kinds_of rows → t.xs.now ≡ xs_of rows → t.ys.now ≡ ys_of rows
+    → Lists ours rows t.roots.now a.1.0.now a.1.1.0.now r' m' b'
+    → (r ≡ r') × (s.1.0.now ≡ m') × (s.1.1.0.now ≡ b')
 listings_agree κs a r s rows r' m' b' slices p q t records =
-    let same = same_table rows a.0.now a.1.0.now a.1.1.0.now a.1.1.1.0.now p q t in
-    let m = a.1.1.1.1.0.now in
-    let b = a.1.1.1.1.1.0.now in (
+    let same = same_table rows a.0.now.kinds.now a.0.now.xs.now a.0.now.ys.now a.0.now.roots.now p q t in
+    let m = a.1.0.now in
+    let b = a.1.1.0.now in (
       slices.0 ∙ ap (λ (u : Table). listed ours u (length m) (length b)) same ∙ sym records.0,
       slices.1.0 ∙ ap (λ (u : Table). matrix_listed ours u m (length b)) same ∙ sym records.1,
       slices.1.1 ∙ ap (λ (u : Table). bytes_listed ours u (length m) b) same ∙ sym records.2,
@@ -63,7 +64,7 @@ same_field field read rows rows' old new p q =
 
 -- `read-sheet-post` is the contract of the reader into slices, `Reads` that of the reader into records.
 pub readers_agree :
-    (κs a r s : _) (rows rows' : List Row) (r' : Read) (roots' : List ℕ) → read-sheet-post κs a r s
+    (κs a r s : _) (rows rows' : List Row) (r' : Result Room Refusal) (roots' : List ℕ) → read-sheet-post κs a r s
     → min (length a.1.0.now) (min (length a.1.1.0.now) (length a.1.1.1.0.now)) ≡ length rows
     → Reads ours a.0.now rows a.1.1.1.1.0.now r' rows' roots'
     → let n = length (rows_of (read_records ours a.0.now rows a.1.1.1.1.0.now)) in

@@ -6,19 +6,17 @@ use mathlib.Core.List.{List}
 use Prim.Native.Nat.{ℕ, ◌<◌}
 use native.Mathlib.Omega.{arith}
 use lib.ListN.{length, length-map}
+use Rattle.std.specs.Prelude.{Err}
 use Rattle.numbers.specs.Sizes.{Size, row_ceiling}
 use Rattle.recipe.specs.Records.{table_of_rows}
 use Rattle.recipe.specs.Rules.{sizes_fit, judged_with}
 use Rattle.recipe.specs.Tables.{Table, rows, procs}
-use Rattle.recipe.specs.declared.Judged.TheVariants.{Refused}
 use Rattle.numbers.specs.declared.Refusal.TheVariants.{Sizes}
 use Rattle.recipe.specs.declared.Row.{Row}
 use Rattle.recipe.proofs.Judging.{sized}
-use Rattle.analysis.specs.declared.Analysed.TheVariants as analysis
 use Rattle.recipe.proofs.WithMatrix.{wrong_sizes}
-use Rattle.analysis.proofs.ReplyLaws.{refused_reply}
-use Rattle.listing.specs.declared.Listed.TheVariants as listing
-use Rattle.listing.proofs.ReplyLaws.{refused_listing}
+use Rattle.analysis.specs.Replies.{analysed, matrix_after}
+use Rattle.listing.specs.Replies.{listed, matrix_listed, bytes_listed}
 use Rattle.records.specs.Inner.{Answers, Lists}
 
 module _ (z : Size) where
@@ -30,13 +28,15 @@ module _ (z : Size) where
       go false e = refl
 
 module _ (z : Size) (rows : List Row) (roots m : List ℕ) (h : row_ceiling < length rows) where
-  judged_so : judged_with z (table_of_rows rows roots) (length m) ≡ Refused Sizes
+  judged_so : judged_with z (table_of_rows rows roots) (length m) ≡ Err Sizes
   judged_so =
       let t = table_of_rows rows roots in
       sym (wrong_sizes z t (length m) (wrong z t (omega (arith, length-map rows (λ (r : Row). r.kind)))))
 
-  pub too_many : Answers z rows roots m (analysis.Refused Sizes) m
-  too_many = refused_reply z (table_of_rows rows roots) m judged_so
+  pub too_many : Answers z rows roots m (Err Sizes) m
+  unfolding analysed matrix_after
+  too_many = rw judged_so (refl, refl)
 
-  pub too_many_listed : (b : List ℕ) → Lists z rows roots m b (listing.Refused Sizes) m b
-  too_many_listed b = let said = refused_listing z (table_of_rows rows roots) m b judged_so in (said.0, said.1.0, said.1.1)
+  pub too_many_listed : (b : List ℕ) → Lists z rows roots m b (Err Sizes) m b
+  unfolding listed matrix_listed bytes_listed
+  too_many_listed b = rw judged_so (refl, refl, refl)

@@ -10,11 +10,11 @@ use prog.Memory.{Memory}
 use prog.Routine.{Routine}
 use types.Logic.{Logic}
 use contract.Monad.{Fun, fact}
+use Rattle.std.specs.Prelude.{Result}
 use Rattle.numbers.specs.Sizes.{Size, ours}
+use Rattle.numbers.specs.declared.Refusal.{Refusal}
 use Rattle.recipe.specs.declared.Row.{Row}
-use Rattle.analysis.specs.declared.Analysed.{Analysed}
-use Rattle.listing.specs.declared.Listed.{Listed}
-use Rattle.table.specs.declared.Read.{Read}
+use Rattle.table.specs.declared.Room.{Room}
 use Rattle.records.specs.Inner.{Answers, Lists, Reads}
 use Rattle.records.specs.contracts.analyse_rows as analysis
 use Rattle.records.specs.contracts.list_rows as listing
@@ -41,16 +41,16 @@ module _ {M : Type 1} {𝓤 : Ura M} (𝓛 : Logic 𝓤) (mem : Memory → SProp
   read_rows_states κs a r e = refl
 
 pub analyse_rows_determined :
-    (z : Size) (rows : List Row) (roots m : List ℕ) (r r' : Analysed) (s s' : List ℕ)
+    (z : Size) (rows : List Row) (roots m : List ℕ) (r r' : Result ℕ Refusal) (s s' : List ℕ)
     → Answers z rows roots m r s → Answers z rows roots m r' s' → (r ≡ r') × (s ≡ s')
 analyse_rows_determined z rows roots m r r' s s' p q = (p.0 ∙ sym q.0, p.1 ∙ sym q.1)
 
 pub list_rows_determined :
-    (z : Size) (rows : List Row) (roots m b : List ℕ) (r r' : Listed) (s s' t t' : List ℕ)
+    (z : Size) (rows : List Row) (roots m b : List ℕ) (r r' : Result ℕ Refusal) (s s' t t' : List ℕ)
     → Lists z rows roots m b r s t → Lists z rows roots m b r' s' t' → (r ≡ r') × (s ≡ s') × (t ≡ t')
 list_rows_determined z rows roots m b r r' s s' t t' p q = (p.0 ∙ sym q.0, p.1 ∙ sym q.1, p.2 ∙ sym q.2)
 
 pub read_rows_determined :
-    (z : Size) (bytes roots : List ℕ) (rows : List Row) (r r' : Read) (s s' : List Row) (t t' : List ℕ)
+    (z : Size) (bytes roots : List ℕ) (rows : List Row) (r r' : Result Room Refusal) (s s' : List Row) (t t' : List ℕ)
     → Reads z bytes rows roots r s t → Reads z bytes rows roots r' s' t' → (r ≡ r') × (s ≡ s') × (t ≡ t')
 read_rows_determined z bytes roots rows r r' s s' t t' p q = (p.0 ∙ sym q.0, p.1 ∙ sym q.1, p.2 ∙ sym q.2)

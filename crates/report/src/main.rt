@@ -1,67 +1,51 @@
 // The program: a sheet from standard input and its answer on standard output, or the sheets of all files named, each answer under its name.
 #![tactic(auto)]
 
-ghost use Rattle.std.specs.Prelude.{◌≡◌, ◌-◌, ◌≤◌, length, take};
+ghost use Rattle.std.specs.Prelude.{◌≡◌, ◌-◌, ◌≤◌, IfSome, length, take};
 ghost use Rattle.numbers.specs.Sizes.{ours};
 ghost use Rattle.listing.specs.Listing.{longest_listing};
 ghost use Rattle.answer.specs.Answer.{answer_to};
 ghost use Rattle.io.specs.Counts.{IsPrefixLen};
-ghost use Rattle.report.specs.Inner.{AtMost};
 
-use listing::Listed;
 use numbers::SheetSize;
 use std::env::{Env, FillError};
 use std::fs::File;
 use std::io::Read;
 
-// What reading a sheet comes to: so many bytes, or a failure.
-#[derive(Clone, Copy)]
-enum Taken {
-    Bytes(usize),
-    Failed,
-}
+// Room for the longest sheet, and for one byte more, by which a longer one is known.
+const SHEET_ROOM: usize = SheetSize::CEILING + 1;
 
 // One more piece of a file, behind what is there already. A read that fails is no end of the file.
-fn more<R: Read>(file: &mut R, buffer: &mut [u8], done: usize) -> Taken
+fn more<R: Read>(file: &mut R, buffer: &mut [u8], done: usize) -> Option<usize>
     requires { done ≤ length buffer.old }
-    ensures { AtMost (length buffer.old - done) result }
+    ensures { IfSome result (λ n. n ≤ length buffer.old - done) }
 {
-    match file.read(&mut buffer[done..]) {
-        Ok(n) => Taken::Bytes(n),
-        Err(_) => Taken::Failed,
-    }
+    file.read(&mut buffer[done..]).ok()
 }
 
-// Reads until the file ends or the buffer is full.
-fn take_in<R: Read>(file: &mut R, buffer: &mut [u8]) -> Taken
-    ensures { AtMost (length buffer.old) result }
+// Reads until the file ends or the buffer is full, and hands back how many bytes there are; none where a read fails. The buffer is of fixed
+// size, since there is no heap, so the number of bytes stands beside it; a turn goes on by as many as it read, so no range fits.
+fn take_in<R: Read>(file: &mut R, buffer: &mut [u8]) -> Option<usize>
+    ensures { IfSome result (λ n. n ≤ length buffer.old) }
 {
-    let mut done: usize = 0;
+    let mut done = 0;
     while done < buffer.len() {
-        match more(file, buffer, done) {
-            Taken::Failed => return Taken::Failed,
-            Taken::Bytes(n) => {
-                if n == 0 {
-                    return Taken::Bytes(done);
-                }
-                done += n;
-            }
+        let n = more(file, buffer, done)?;
+        if n == 0 {
+            break;
         }
+        done += n;
     }
-    Taken::Bytes(done)
+    Some(done)
 }
 
 // Reads the file of a name, and closes it before anything is written.
-fn take_file(rt: &HostRuntime, name: &[u8], buffer: &mut [u8]) -> Taken
-    ensures { AtMost (length buffer.old) result }
+fn take_file(rt: &HostRuntime, name: &[u8], buffer: &mut [u8]) -> Option<usize>
+    ensures { IfSome result (λ n. n ≤ length buffer.old) }
 {
-    let Ok(path) = str::from_utf8(name) else {
-        return Taken::Failed;
-    };
-    match File::open(rt, path) {
-        Ok(mut file) => take_in(&mut file, buffer),
-        Err(_) => Taken::Failed,
-    }
+    let path = str::from_utf8(name).ok()?;
+    let mut file = File::open(rt, path).ok()?;
+    take_in(&mut file, buffer)
 }
 
 // Tells on standard error what failed, and of which file.
@@ -82,30 +66,17 @@ fn put(rt: &HostRuntime, bytes: &[u8]) -> bool {
     written
 }
 
-// Room for the longest answer.
-fn answer_room() -> [u8; listing::LONGEST] {
-    [0; listing::LONGEST]
-}
-
-// Room for the longest sheet, and for one byte more, by which a longer one is known.
-fn sheet_room() -> [u8; SheetSize::CEILING + 1] {
-    [0; SheetSize::CEILING + 1]
-}
-
 // The answer to a sheet, at the front of the bytes, and its length. So much room is never too little.
 fn answered(sheet: &[u8], bytes: &mut [u8]) -> usize
     requires { longest_listing ≤ length bytes.old }
     ensures { (take result bytes.new ≡ answer_to ours sheet.now) × IsPrefixLen result bytes.new }
 {
-    match answer::answer(sheet, bytes) {
-        Listed::Length(n) => n,
-        Listed::Refused(_) => 0,
-    }
+    answer::answer(sheet, bytes).unwrap_or(0)
 }
 
 // Prints the answer to a sheet, and says whether it could.
 fn report(rt: &HostRuntime, sheet: &[u8]) -> bool {
-    let mut bytes = answer_room();
+    let mut bytes = [0; listing::LONGEST];
     let n = answered(sheet, &mut bytes);
     put(rt, &bytes[..n])
 }
@@ -117,10 +88,10 @@ fn report_named(rt: &HostRuntime, name: &[u8], sheet: &[u8]) -> bool {
 
 // Answers the sheet on standard input.
 fn answer_input(rt: &HostRuntime) {
-    let mut sheet = sheet_room();
+    let mut sheet = [0; SHEET_ROOM];
     match take_in(&mut rt.stdin(), &mut sheet) {
-        Taken::Failed => tell(rt, b"cannot read ", b"standard input"),
-        Taken::Bytes(n) => {
+        None => tell(rt, b"cannot read ", b"standard input"),
+        Some(n) => {
             report(rt, &sheet[..n]);
         }
     }
@@ -128,17 +99,18 @@ fn answer_input(rt: &HostRuntime) {
 
 // Answers the sheet in the file of a name, and says whether to go on: a file that cannot be read is told and keeps no other from its answer.
 fn answer_file(rt: &HostRuntime, name: &[u8]) -> bool {
-    let mut sheet = sheet_room();
+    let mut sheet = [0; SHEET_ROOM];
     match take_file(rt, name, &mut sheet) {
-        Taken::Failed => {
+        None => {
             tell(rt, b"cannot read ", name);
             true
         }
-        Taken::Bytes(n) => report_named(rt, name, &sheet[..n]),
+        Some(n) => report_named(rt, name, &sheet[..n]),
     }
 }
 
 // The name that an argument gives, at the front of the bytes, and its length. One that does not fit fills them: too long for a path, it opens nothing.
+// One that is not there is empty and opens nothing, so that it is told as any other; an Option would only be made empty again.
 fn name_of(rt: &HostRuntime, argument: usize, bytes: &mut [u8]) -> usize
     ensures { IsPrefixLen result bytes.new }
 {
@@ -158,12 +130,10 @@ fn answer_argument(rt: &HostRuntime, argument: usize) -> bool {
 
 // Answers the sheets in the files that the arguments name, in their order; argument 0 is the program's own name.
 fn answer_arguments(rt: &HostRuntime, count: usize) {
-    let mut argument = 1;
-    while argument < count {
+    for argument in 1..count {
         if !answer_argument(rt, argument) {
             return;
         }
-        argument += 1;
     }
 }
 

@@ -4,10 +4,15 @@ use mathlib.Core.Path.{◌≡◌, refl, sym, ap, ◌∙◌}
 use mathlib.Core.List.{List, [], ◌∷◌, ◌++◌}
 use Prim.Native.Nat.{ℕ, zero, suc, ◌+◌, ◌≤◌, ◌<◌}
 use native.Mathlib.Omega.{arith}
-use lib.ListN.{length, get_or}
+use lib.ListN.{length, get_or, drop, drop_of_length-le}
+use lib.Seq.{drop-cons}
+use borrow.Author.Tests.{ne_eqb}
+use Rattle.std.specs.Prelude.{Option, Some, None, MatchOption}
 use Rattle.text.specs.Bytes.{tab}
 use Rattle.text.specs.Fields.{Field, holds, broken, text_at}
+use Rattle.text.specs.Inner.{token_at, field_of}
 use Rattle.text.proofs.FieldForms.{broken_holds_nothing, text_read}
+use Rattle.text.proofs.TokenLaws.{text_field}
 use Rattle.sheet.specs.Form.{keywords, keyword}
 use Rattle.sheet.specs.Lines.{or_else, keyword_from, keyword_at}
 
@@ -55,6 +60,13 @@ keyword_reads (suc (suc (suc (suc (suc zero))))) t h = refl
 keyword_reads (suc (suc (suc (suc (suc (suc zero)))))) t h = refl
 keyword_reads (suc (suc (suc (suc (suc (suc (suc k))))))) t h = absurd (omega arith)
 
+-- The token, or where there is none the field of a text at the same place.
+pub or_text :
+    (bytes : List ℕ) (at : ℕ) (text : List ℕ) (n : ℕ) (r r' : Option (ℕ × ℕ)) (P : Type 0) → MatchOption r P (λ x. r' ≡ Some x)
+    → (P → r' ≡ token_at (text_at text n) bytes at) → field_of bytes r' ≡ or_else (field_of bytes r) (text_at text n (drop at bytes))
+or_text bytes at text n None r' P e tried = text_field bytes at text n (tried e)
+or_text bytes at text n (Some (m, next)) r' P e tried = rw e
+
 or_else_assoc : (f g h : Field) → or_else (or_else f g) h ≡ or_else f (or_else g h)
 or_else_assoc (holds n s) g h = refl
 or_else_assoc broken g h = refl
@@ -63,21 +75,56 @@ or_else_broken : (f : Field) → or_else f broken ≡ f
 or_else_broken (holds n s) = refl
 or_else_broken broken = refl
 
--- The keywords may be tried one after the other.
-module _ (s : List ℕ) where
-  abbrev kind_here : ℕ → Field
-  kind_here k = text_at (keyword k ++ (tab ∷ [])) k s
+-- A kind's keyword before a tab, tried alone.
+abbrev pub kind_here : ℕ → List ℕ → Field
+kind_here k s = text_at (keyword k ++ (tab ∷ [])) k s
 
-  pub keywords_in_order :
-      (f₀ f₁ f₂ f₃ f₄ f₅ f₆ : Field)
-      → f₀ ≡ kind_here 0
-      → f₁ ≡ or_else f₀ (kind_here 1)
-      → f₂ ≡ or_else f₁ (kind_here 2)
-      → f₃ ≡ or_else f₂ (kind_here 3)
-      → f₄ ≡ or_else f₃ (kind_here 4)
-      → f₅ ≡ or_else f₄ (kind_here 5)
-      → f₆ ≡ or_else f₅ (kind_here 6)
-      → f₆ ≡ keyword_at s
-  unfolding keyword_from
-  keywords_in_order f₀ f₁ f₂ f₃ f₄ f₅ f₆ e₀ e₁ e₂ e₃ e₄ e₅ e₆ =
-      rw (e₆, e₅, e₄, e₃, e₂, e₁, e₀) (simp (or_else_assoc, or_else_broken))
+-- The three keywords that begin with s.
+abbrev pub kinds_with_s : List ℕ → Field
+kinds_with_s s = or_else (or_else (kind_here 0 s) (kind_here 1 s)) (kind_here 2 s)
+
+-- The first byte tells which keywords may stand there.
+module _ (t : List ℕ) where
+  pub with_s : keyword_at (115 ∷ t) ≡ kinds_with_s (115 ∷ t)
+  unfolding keyword_from text_at
+  with_s = simp (or_else_assoc, or_else_broken)
+
+  pub with_l : keyword_at (108 ∷ t) ≡ kind_here 3 (108 ∷ t)
+  unfolding keyword_from text_at
+  with_l = simp or_else_broken
+
+  pub with_a : keyword_at (97 ∷ t) ≡ kind_here 4 (97 ∷ t)
+  unfolding keyword_from text_at
+  with_a = simp or_else_broken
+
+  pub with_f : keyword_at (102 ∷ t) ≡ kind_here 5 (102 ∷ t)
+  unfolding keyword_from text_at
+  with_f = simp or_else_broken
+
+  pub with_c : keyword_at (99 ∷ t) ≡ kind_here 6 (99 ∷ t)
+  unfolding keyword_from text_at
+  with_c = simp or_else_broken
+
+  pub with_another :
+      (b : ℕ) → (b ≡ 115 → ⊥) → (b ≡ 108 → ⊥) → (b ≡ 97 → ⊥) → (b ≡ 102 → ⊥) → (b ≡ 99 → ⊥) → keyword_at (b ∷ t) ≡ broken
+  unfolding keyword_from text_at
+  with_another b s l a f c = rw (ne_eqb b 115 s, ne_eqb b 108 l, ne_eqb b 97 a, ne_eqb b 102 f, ne_eqb b 99 c)
+
+module _ (bytes : List ℕ) (at : ℕ) where
+  pub no_keyword_behind : length bytes ≤ at → broken ≡ keyword_at (drop at bytes)
+  unfolding keyword_from text_at
+  no_keyword_behind l = rw (drop_of_length-le bytes l)
+
+  module _ {b : ℕ} (l : at < length bytes) (e : b ≡ get_or bytes at 0) where
+    pub by_first :
+        (c : ℕ) (tried : List ℕ → Field) {f : Field} → ((t : List ℕ) → keyword_at (c ∷ t) ≡ tried (c ∷ t)) → b ≡ c
+        → f ≡ tried (drop at bytes) → f ≡ keyword_at (drop at bytes)
+    by_first c tried w h g =
+        let here : drop at bytes ≡ c ∷ drop (suc at) bytes = rw (drop-cons bytes at 0 l, ← e, h) in
+        g ∙ (rw here (sym (w (drop (suc at) bytes))))
+
+    pub no_first :
+        (b ≡ 115 → ⊥) → (b ≡ 108 → ⊥) → (b ≡ 97 → ⊥) → (b ≡ 102 → ⊥) → (b ≡ 99 → ⊥) → broken ≡ keyword_at (drop at bytes)
+    no_first s l' a f c =
+        let here : drop at bytes ≡ b ∷ drop (suc at) bytes = rw (drop-cons bytes at 0 l, ← e) in
+        rw here (sym (with_another (drop (suc at) bytes) b s l' a f c))

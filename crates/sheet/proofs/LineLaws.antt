@@ -1,13 +1,16 @@
 -- How a line is read field by field: each case of the definitions once, by what its fields were found to be.
 -- Assumes nothing.
-use mathlib.Core.Path.{◌≡◌, refl}
+use mathlib.Core.Path.{◌≡◌, refl, sym}
 use mathlib.Core.List.{List, [], ◌∷◌}
-use Prim.Native.Nat.{ℕ, suc, ◌≤◌, ◌<◌}
-use lib.ListN.{length, get_or, drop, drop_of_length-le}
+use Prim.Native.Nat.{ℕ, ◌≤◌, ◌<◌}
+use lib.ListN.{length, drop, drop_of_length-le}
 use lib.Seq.{drop-cons}
+use Rattle.std.proofs.lemmas.Bool.Decides.{nat_tests}
 use Rattle.text.specs.Bytes.{tab, newline}
 use Rattle.text.specs.Fields.{holds, broken, text_at, number_at}
-use Rattle.sheet.specs.Lines.{row_mark, root_mark, keyword_at, no_line, row_line, root_line, wrong_line, row_line_at, root_line_at, line_at}
+use Rattle.text.specs.Inner.{token_at, field_of}
+use Rattle.text.proofs.TokenLaws.{text_field, number_field}
+use Rattle.sheet.specs.Lines.{row_mark, root_mark, keyword_at, no_line, row_line, root_line, wrong_line, row_line_at, root_line_at, line_at, by_mark}
 
 module _ (s : List ℕ) where
   pub no_keyword : broken ≡ keyword_at s → wrong_line ≡ row_line_at s
@@ -61,15 +64,18 @@ module _ (bytes : List ℕ) (at : ℕ) where
   unfolding line_at
   sheet_ends l = rw (drop_of_length-le bytes l)
 
-  module _ (l : at < length bytes) where
-    pub begins_row : {n : ℕ} {t : List ℕ} → holds n t ≡ text_at row_mark 0 (drop at bytes) → row_line_at t ≡ line_at (drop at bytes)
-    begins_row = rw (drop-cons bytes at 0 l) (row_marked (get_or bytes at 0) (drop (suc at) bytes))
+  pub by_its_mark : at < length bytes → line_at (drop at bytes) ≡ by_mark (text_at row_mark 0 (drop at bytes)) (text_at root_mark 0 (drop at bytes))
+  unfolding line_at
+  by_its_mark l = rw (drop-cons bytes at 0 l)
 
-    pub begins_root :
-        {n : ℕ} {t : List ℕ} → broken ≡ text_at row_mark 0 (drop at bytes) → holds n t ≡ text_at root_mark 0 (drop at bytes)
-        → root_line_at t ≡ line_at (drop at bytes)
-    begins_root = rw (drop-cons bytes at 0 l) (root_marked (get_or bytes at 0) (drop (suc at) bytes))
+-- A field at a place of the bytes, by what is found of it there.
+pub number_is : (stop : ℕ) (bytes : List ℕ) (at : ℕ) → number_at stop (drop at bytes) ≡ field_of bytes (token_at (number_at stop) bytes at)
+number_is stop bytes at = sym (number_field bytes at stop refl)
 
-    pub begins_wrong :
-        broken ≡ text_at row_mark 0 (drop at bytes) → broken ≡ text_at root_mark 0 (drop at bytes) → wrong_line ≡ line_at (drop at bytes)
-    begins_wrong = rw (drop-cons bytes at 0 l) (unmarked (get_or bytes at 0) (drop (suc at) bytes))
+pub text_is : (text : List ℕ) (n : ℕ) (bytes : List ℕ) (at : ℕ) → text_at text n (drop at bytes) ≡ field_of bytes (token_at (text_at text n) bytes at)
+text_is text n bytes at = sym (text_field bytes at text n refl)
+
+-- What reading a line's fields comes to, and what is done with a line, follows by these.
+pub ruleset by_fields = (number_is, text_is)
+
+pub ruleset by_line = (by_its_mark, sheet_ends, nat_tests)

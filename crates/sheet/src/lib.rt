@@ -9,60 +9,51 @@ ghost use Rattle.table.specs.Reading.{rows_of, roots_of, reply_of};
 ghost use Rattle.table.specs.Inner.{held_of};
 ghost use Rattle.sheet.specs.Reading.{read_sheet, read_into};
 
-use lines::Step;
+use lines::Line;
 use numbers::{Refusal, SheetSize};
-use table::{Held, Read, Room};
+use table::{Held, Room};
 
 mod keywords;
 mod lines;
 
 // Reads a sheet, with so many places lent for rows and for roots, and holds what was read.
-pub fn hold_sheet(bytes: &[u8], places: Room) -> Held
+pub fn hold_sheet(bytes: &[u8], places: Room) -> Result<Held, Refusal>
     ensures { result ≡ held_of (read_sheet ours places.rows places.roots bytes.now) }
 {
     if SheetSize::CEILING < bytes.len() {
-        return table::refusal(Refusal::LongSheet);
+        return Err(Refusal::LongSheet);
     }
     let room = places.within_ceilings();
-    let mut rows = table::no_rows();
-    let mut roots = table::no_roots();
+    let mut held = Held::empty();
+    // Beside the arrays for speed: for all that the compiler knows, a row stored into its array could change what stands behind it.
+    let mut kept = held.kept;
     let mut at = 0;
-    let mut n = 0;
-    let mut m = 0;
-    loop {
-        match lines::step_at(bytes, at, n, m, room) {
-            Step::KeepRow(row, next) => {
-                rows[n] = row;
-                n += 1;
-                at = next;
+    while let Some((line, next)) = lines::step_at(bytes, at, kept, room)? {
+        at = next;
+        match line {
+            Line::Row(row) => {
+                held.rows[kept.rows] = row;
+                kept.rows += 1;
             }
-            Step::KeepRoot(root, next) => {
-                roots[m] = root;
-                m += 1;
-                at = next;
-            }
-            Step::Done => {
-                return Held {
-                    rows,
-                    roots,
-                    reply: Read::Stored(n, m),
-                };
-            }
-            Step::Refuse(why) => {
-                return table::refusal(why);
+            Line::Root(root) => {
+                held.roots[kept.roots] = root;
+                kept.roots += 1;
             }
         }
     }
+    held.kept = kept;
+    Ok(held)
 }
 
-// Reads a sheet into lent slices, row by row and root by root. After a refusal they are as before.
+// Reads a sheet into lent slices, row by row and root by root, and hands back how many were stored. After a refusal the slices are as before.
+// The slices come one by one, as C lends them.
 pub fn read_sheet(
     bytes: &[u8],
     kinds: &mut [u8],
     xs: &mut [u16],
     ys: &mut [u16],
     roots: &mut [u16],
-) -> Read
+) -> Result<Room, Refusal>
     ensures { let w = read_into ours bytes.now kinds.old xs.old ys.old roots.old in
         (result ≡ reply_of w)
         × ((kinds.new ≡ laid (kinds_of (rows_of w)) kinds.old)
@@ -71,15 +62,11 @@ pub fn read_sheet(
         × (roots.new ≡ laid (roots_of w) roots.old)))) }
 {
     let places = Room {
-        rows: numbers::least(kinds.len(), numbers::least(xs.len(), ys.len())),
+        rows: kinds.len().min(xs.len().min(ys.len())),
         roots: roots.len(),
     };
-    let held = hold_sheet(bytes, places);
-    let rows = held.rows;
-    let read_roots = held.roots;
-    let reply = held.reply;
-    let count = table::reported(reply);
-    table::store_rows(kinds, xs, ys, rows, count.rows);
-    table::store_roots(roots, read_roots, count.roots);
-    reply
+    let held = hold_sheet(bytes, places)?;
+    table::store_rows(held.kept.rows, &held.rows, kinds, xs, ys);
+    table::store(held.kept.roots, &held.roots, roots);
+    Ok(held.kept)
 }

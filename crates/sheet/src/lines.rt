@@ -1,7 +1,8 @@
 // Lines of a sheet, and what is done with each.
 ghost use Rattle.std.specs.Prelude.{◌≡◌, ◌+◌, ◌≤◌, drop};
 ghost use Rattle.numbers.specs.Sizes.{ours, row_ceiling};
-ghost use Rattle.sheet.specs.Lines.{row_line_at, root_line_at, line_at};
+ghost use Rattle.text.specs.Fields.{text_at};
+ghost use Rattle.sheet.specs.Lines.{row_mark, root_mark, row_line_at, root_line_at, line_at, by_mark};
 ghost use Rattle.sheet.specs.Reading.{step_of};
 ghost use Rattle.sheet.specs.Inner.{line_of, step_for};
 
@@ -9,100 +10,86 @@ use crate::keywords::keyword_at;
 use numbers::{LineNumber, Refusal};
 use recipe::Row;
 use table::Room;
-use text::Token;
 
-// A line that was found, with the place after it: a row, a procedure's root, none, or one of wrong form.
+// What a line holds: a row, or a procedure's root.
 #[derive(Clone, Copy)]
-pub enum Entry {
-    Row(Row, usize),
-    Root(u16, usize),
-    End,
-    Wrong,
+pub enum Line {
+    Row(Row),
+    Root(u16),
 }
 
-// What is done with a line.
-#[derive(Clone, Copy)]
-pub enum Step {
-    KeepRow(Row, usize),
-    KeepRoot(u16, usize),
-    Done,
-    Refuse(Refusal),
-}
-
-// The row line at this place, after its mark.
-fn row_at(bytes: &[u8], at: usize) -> Entry
+// The row line at this place, after its mark, and the place after it.
+#[tactic(auto, using(crate::proofs::LineLaws::by_fields, crate::proofs::KeywordLaws::kind_small), unfolding(crate::specs::Lines::row_line_at))]
+fn row_at(bytes: &[u8], at: usize) -> Option<(Line, usize)>
     ensures { line_of bytes.now result ≡ row_line_at (drop at bytes.now) }
 {
-    let Token::Found(kind, after_kind) = keyword_at(bytes, at) else {
-        return Entry::Wrong;
+    let (kind, after_kind) = keyword_at(bytes, at)?;
+    let (x, after_x) = text::number_at(bytes, after_kind, b'\t')?;
+    let (y, next) = text::number_at(bytes, after_x, b'\n')?;
+    let row = Row {
+        kind: kind as u8,
+        x,
+        y,
     };
-    let Token::Found(x, after_x) = text::number_at(bytes, after_kind, b'\t') else {
-        return Entry::Wrong;
-    };
-    let Token::Found(y, next) = text::number_at(bytes, after_x, b'\n') else {
-        return Entry::Wrong;
-    };
-    Entry::Row(
-        Row {
-            kind: kind as u8,
-            x,
-            y,
-        },
-        next,
-    )
+    Some((Line::Row(row), next))
 }
 
-// The procedure line at this place, after its mark.
-fn root_at(bytes: &[u8], at: usize) -> Entry
+// The procedure line at this place, after its mark, and the place after it.
+#[tactic(auto, using(crate::proofs::LineLaws::by_fields), unfolding(crate::specs::Lines::root_line_at))]
+fn root_at(bytes: &[u8], at: usize) -> Option<(Line, usize)>
     ensures { line_of bytes.now result ≡ root_line_at (drop at bytes.now) }
 {
-    let Token::Found(root, next) = text::number_at(bytes, at, b'\n') else {
-        return Entry::Wrong;
-    };
-    Entry::Root(root, next)
+    let (root, next) = text::number_at(bytes, at, b'\n')?;
+    Some((Line::Root(root), next))
 }
 
-// The line at this place.
-fn line_at(bytes: &[u8], at: usize) -> Entry
-    ensures { line_of bytes.now result ≡ line_at (drop at bytes.now) }
+// The line at this place, by its mark, and the place after it. A mark has no number: what `text_at` asks for is not used.
+#[tactic(auto, using(crate::proofs::LineLaws::by_fields))]
+fn line_at(bytes: &[u8], at: usize) -> Option<(Line, usize)>
+    ensures { let s = drop at bytes.now in
+        line_of bytes.now result ≡ by_mark (text_at row_mark 0 s) (text_at root_mark 0 s) }
 {
-    if bytes.len() <= at {
-        return Entry::End;
-    }
-    if let Token::Found(_, next) = text::text_at(bytes, at, b"R\t", 0) {
+    if let Some((_, next)) = text::text_at(bytes, at, b"R\t", 0) {
         return row_at(bytes, next);
     }
-    if let Token::Found(_, next) = text::text_at(bytes, at, b"P\t", 0) {
-        return root_at(bytes, next);
-    }
-    Entry::Wrong
+    let (_, next) = text::text_at(bytes, at, b"P\t", 0)?;
+    root_at(bytes, next)
 }
 
-// What is done with the line at this place where n rows and m roots are kept already. Each line before it is one of them, so they make its number.
-pub(crate) fn step_at(bytes: &[u8], at: usize, n: usize, m: usize, room: Room) -> Step
-    requires { n + m ≤ row_ceiling + ours.procs }
-    ensures { let b = bytes.now in step_for b result ≡ step_of room.rows room.roots n m (line_at (drop at b)) }
+// The line at this place, and the place after it, where so much is kept already: a row or a root to keep, or none where the sheet ends.
+// Each line before it is kept, so what is kept makes its number.
+#[tactic(auto, using(crate::proofs::LineLaws::by_line), unfolding(crate::specs::Reading::step_of))]
+pub(crate) fn step_at(
+    bytes: &[u8],
+    at: usize,
+    kept: Room,
+    room: Room,
+) -> Result<Option<(Line, usize)>, Refusal>
+    requires { kept.rows + kept.roots ≤ row_ceiling + ours.procs }
+    ensures { step_for bytes.now result
+        ≡ step_of room.rows room.roots kept.rows kept.roots (line_at (drop at bytes.now)) }
 {
-    let place = LineNumber((n + m) as u32);
-    let row_room = room.rows;
-    let root_room = room.roots;
-    match line_at(bytes, at) {
-        Entry::End => Step::Done,
-        Entry::Wrong => Step::Refuse(Refusal::WrongForm(place)),
-        Entry::Row(row, next) => {
-            if 0 < m {
-                Step::Refuse(Refusal::WrongForm(place))
-            } else if n < row_room {
-                Step::KeepRow(row, next)
-            } else {
-                Step::Refuse(Refusal::NoRoom(place))
+    if bytes.len() <= at {
+        return Ok(None);
+    }
+    let place = LineNumber((kept.rows + kept.roots) as u32);
+    let Some((line, next)) = line_at(bytes, at) else {
+        return Err(Refusal::WrongForm(place));
+    };
+    match line {
+        Line::Row(_) => {
+            if 0 < kept.roots {
+                return Err(Refusal::WrongForm(place));
+            }
+            if room.rows <= kept.rows {
+                return Err(Refusal::NoRoom(place));
             }
         }
-        Entry::Root(root, next) => {
-            if root_room <= m {
-                return Step::Refuse(Refusal::NoRoom(place));
+        Line::Root(_) => {
+            if room.roots <= kept.roots {
+                return Err(Refusal::NoRoom(place));
             }
-            Step::KeepRoot(root, next)
         }
     }
+    Ok(Some((line, next)))
 }

@@ -1,18 +1,18 @@
--- The first n entries of the copied columns are the table of the rows, where there are n of them and a table can have that many, since each column begins
--- with a field of all rows.
+-- The table of the columns that rows were copied into is the table of the rows, since each column begins with a field of all rows.
 -- Assumes nothing.
-use mathlib.Core.Path.{◌≡◌, sym, ap, ◌∙◌}
+use mathlib.Core.Path.{◌≡◌, sym, ◌∙◌}
 use mathlib.Core.List.{List, map}
 use Prim.Native.Nat.{ℕ, ◌≤◌}
 use native.Mathlib.Omega.{arith}
 use lib.ListN.{length, take, length-map}
-use lib.Seq.{length-take-le}
+use Rattle.std.specs.Prelude.{Ok}
 use Rattle.numbers.specs.Sizes.{row_ceiling}
 use Rattle.recipe.specs.Records.{kinds_of, xs_of, ys_of, table_of_rows}
 use Rattle.recipe.specs.Tables.{table_of}
 use Rattle.recipe.specs.declared.Row.{Row}
-use Rattle.table.specs.Inner.{column, columns_of}
-use Rattle.table.specs.declared.Columns.{Columns}
+use Rattle.table.specs.Columns.{Copied, columns_table}
+use Rattle.table.specs.Inner.{column}
+use Rattle.table.specs.declared.columns.Columns.{Columns}
 use Rattle.table.proofs.Laying.{column_begins}
 
 -- Three slices that hold the fields of the rows are the same table.
@@ -21,19 +21,16 @@ pub same_table :
     → table_of kinds xs ys roots ≡ table_of_rows rows roots
 same_table rows kinds xs ys roots p q s = cc
 
-module _ (n : ℕ) (rows : List Row) (fits : n ≤ row_ceiling) (many : length rows ≡ n) where
-  first_of : (field : Row → ℕ) → take n (column (map field rows)) ≡ map field rows
-  first_of field =
-      ap (λ (k : ℕ). take k (column (map field rows))) (sym (length-map rows field ∙ many))
-      ∙ column_begins (map field rows) (omega (arith, length-map rows field))
+-- The first entries of a column, as many as there are rows, are the rows' field.
+first_of :
+    (field : Row → ℕ) (rows : List Row) {n : ℕ} {numbers : List ℕ} → n ≤ row_ceiling → n ≡ length rows → numbers ≡ column (map field rows)
+    → take n numbers ≡ map field rows
+first_of field rows fits many copied =
+    rw (many ∙ sym (length-map rows field), copied) (column_begins (map field rows) (omega (arith, length-map rows field)))
 
-  pub first_are :
-      (c : Columns) (roots : List ℕ) → c ≡ columns_of rows
-      → table_of (take n c.kinds) (take n c.xs) (take n c.ys) roots ≡ table_of_rows rows roots
-  first_are c roots copied =
-      ap (λ (d : Columns). table_of (take n d.kinds) (take n d.xs) (take n d.ys) roots) copied
-      ∙ same_table rows _ _ _ roots (first_of (λ (r : Row). r.kind)) (first_of (λ (r : Row). r.x)) (first_of (λ (r : Row). r.y))
-
--- The first n entries of a column are n.
-pub first_n : (n : ℕ) (numbers : List ℕ) → length numbers ≡ row_ceiling → n ≤ row_ceiling → n ≡ length (take n numbers)
-first_n n numbers e fits = sym (length-take-le n numbers (omega arith))
+pub columns_are : (rows : List Row) (c : Columns) (roots : List ℕ) → Copied rows (Ok c) → columns_table c roots ≡ table_of_rows rows roots
+columns_are rows c roots copied =
+    same_table rows _ _ _ roots
+    (first_of (λ (r : Row). r.kind) rows c.fits copied.0 copied.1)
+    (first_of (λ (r : Row). r.x) rows c.fits copied.0 copied.2)
+    (first_of (λ (r : Row). r.y) rows c.fits copied.0 copied.3)

@@ -1,6 +1,7 @@
 pub mod Overlaid
 pub mod Laying
 pub mod Replies
+pub mod SameColumns
 pub mod CopiedTable
-pub mod Unique
 mod Examples
+pub mod Unique

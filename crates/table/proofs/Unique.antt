@@ -1,65 +1,81 @@
--- Two results and later contents that meet a public function's contract are equal, since each contract is an equation. `Post` is the contract itself; of
--- `copy_out` and `copy_in`, what the contracts state is said first.
+-- Two results and later contents that meet a public function's contract are equal, since each contract is an equation. `Post` is the contract itself.
 -- Assumes nothing.
-use mathlib.Core.Path.{◌≡◌, refl, sym, ◌∙◌}
+use mathlib.Core.Path.{◌≡◌, sym, ap, ◌∙◌}
 use mathlib.Core.List.{List}
-use Prim.Native.Nat.{ℕ}
-use seplogic.Ra.Ura.{Ura}
-use base.Logic.{SProp}
-use prog.Memory.{Memory}
-use prog.Routine.{Routine}
-use types.Logic.{Logic}
-use contract.Monad.{Fun, fact}
+use Prim.Native.Nat.{ℕ, ◌≤◌}
+use native.Mathlib.Omega.{arith}
+use Rattle.numbers.specs.Sizes.{row_ceiling}
+use Rattle.std.specs.Prelude.{Result, Ok, Err}
+use Rattle.numbers.specs.declared.Refusal.{Refusal}
+use Rattle.recipe.specs.Tables.{lists_of}
 use Rattle.recipe.specs.declared.Row.{Row}
-use Rattle.table.specs.Inner.{overlaid, columns_of}
-use Rattle.table.specs.declared.Columns.{Columns}
+use Rattle.table.specs.Columns.{Copied}
+use Rattle.table.specs.Inner.{overlaid, held_of}
+use Rattle.table.specs.Reading.{Reading, refused, reply_of}
+use Rattle.table.specs.declared.Held.{Held}
+use Rattle.table.specs.declared.Room.{Room}
+use Rattle.table.specs.declared.columns.Columns.{Columns}
+use Rattle.table.proofs.SameColumns.{same_columns}
 use Rattle.table.proofs.Room.within_ceilings.Reads.{Post as within-ceilings-post}
-use Rattle.table.proofs.reported.Reads.{Post as reported-post}
-use Rattle.table.proofs.no_rows.Reads.{Post as no-rows-post}
-use Rattle.table.proofs.no_roots.Reads.{Post as no-roots-post}
-use Rattle.table.proofs.refusal.Reads.{Post as refusal-post}
+use Rattle.table.proofs.Held.empty.Reads.{Post as empty-post}
 use Rattle.table.proofs.store_rows.Reads.{Post as store-rows-post}
-use Rattle.table.proofs.store_roots.Reads.{Post as store-roots-post}
-use Rattle.table.specs.contracts.copy_out as copy-out
-use Rattle.table.specs.contracts.copy_in as copy-in
+use Rattle.table.proofs.store.Reads.{Post as store-post}
+use Rattle.table.proofs.columns.Columns.of.Reads.{Post as of-post}
+use Rattle.table.proofs.columns.Columns.first_of.Reads.{Post as first-of-post}
+use Rattle.table.proofs.columns.Columns.table.Reads.{Post as table-post}
 
 pub within_ceilings_determined :
     (κs a r r' s s' : _) → within-ceilings-post κs a r s → within-ceilings-post κs a r' s' → (r.rows ≡ r'.rows) × (r.roots ≡ r'.roots)
 within_ceilings_determined κs a r r' s s' p q = (p.0 ∙ sym q.0, p.1 ∙ sym q.1)
 
-pub reported_determined :
-    (κs a r r' s s' : _) → reported-post κs a r s → reported-post κs a r' s' → (r.rows ≡ r'.rows) × (r.roots ≡ r'.roots)
-reported_determined κs a r r' s s' p q = (p.0 ∙ sym q.0, p.1 ∙ sym q.1)
+pub empty_determined : (κs a r r' s s' : _) → empty-post κs a r s → empty-post κs a r' s' → r ≡ r'
+empty_determined κs a r r' s s' p q = p ∙ sym q
 
-pub no_rows_determined : (κs a r r' s s' : _) → no-rows-post κs a r s → no-rows-post κs a r' s' → r ≡ r'
-no_rows_determined κs a r r' s s' p q = p ∙ sym q
+-- So its rows and its roots are one each.
+pub no_rows_determined : (κs a r r' s s' : _) → empty-post κs a r s → empty-post κs a r' s' → r.rows ≡ r'.rows
+no_rows_determined κs a r r' s s' p q = ap (λ (h : Held). h.rows) (empty_determined κs a r r' s s' p q)
 
-pub no_roots_determined : (κs a r r' s s' : _) → no-roots-post κs a r s → no-roots-post κs a r' s' → r ≡ r'
-no_roots_determined κs a r r' s s' p q = p ∙ sym q
-
-pub refusal_determined : (κs a r r' s s' : _) → refusal-post κs a r s → refusal-post κs a r' s' → r ≡ r'
-refusal_determined κs a r r' s s' p q = p ∙ sym q
+pub no_roots_determined : (κs a r r' s s' : _) → empty-post κs a r s → empty-post κs a r' s' → r.roots ≡ r'.roots
+no_roots_determined κs a r r' s s' p q = ap (λ (h : Held). h.roots) (empty_determined κs a r r' s s' p q)
 
 pub store_rows_determined :
     (κs a r r' s s' : _) → store-rows-post κs a r s → store-rows-post κs a r' s'
-    → (s.0.now ≡ s'.0.now) × (s.1.0.now ≡ s'.1.0.now) × (s.1.1.0.now ≡ s'.1.1.0.now)
-store_rows_determined κs a r r' s s' p q = (p.0 ∙ sym q.0, p.1.0 ∙ sym q.1.0, p.1.1 ∙ sym q.1.1)
+    → (s.1.1.0.now ≡ s'.1.1.0.now) × (s.1.1.1.0.now ≡ s'.1.1.1.0.now) × (s.1.1.1.1.0.now ≡ s'.1.1.1.1.0.now)
+store_rows_determined κs a r r' s s' p q = (p.0 ∙ sym q.0, p.1 ∙ sym q.1, p.2 ∙ sym q.2)
 
-pub store_roots_determined : (κs a r r' s s' : _) → store-roots-post κs a r s → store-roots-post κs a r' s' → s.0.now ≡ s'.0.now
-store_roots_determined κs a r r' s s' p q = p ∙ sym q
+-- For every type of elements, so for records and for numbers.
+pub store_determined : (T b c d e κs a r r' s s' : _) → store-post T b c d e κs a r s → store-post T b c d e κs a r' s' → s.1.1.0.now ≡ s'.1.1.0.now
+store_determined T b c d e κs a r r' s s' p q = p ∙ sym q
 
--- What their contracts state, word for word.
-module _ {M : Type 1} {𝓤 : Ura M} (𝓛 : Logic 𝓤) (mem : Memory → SProp 𝓤) (run : Routine → Fun 𝓤) where
-  pub copy_out_states :
-      (κs a r e : _)
-      → (copy-out.clauses 𝓛 mem run κs a).ensures tt r e ≡ fact 𝓤 (e.1.1.0.now ≡ overlaid a.0 a.1.0 a.1.1.0.now)
-  copy_out_states κs a r e = refl
-
-  pub copy_in_states : (κs a r e : _) → (copy-in.clauses 𝓛 mem run κs a).ensures tt r e ≡ fact 𝓤 (r ≡ columns_of a.0.now)
-  copy_in_states κs a r e = refl
-
+-- Records laid over records, and roots over roots.
 pub copy_out_determined : (n : ℕ) (all old new new' : List Row) → new ≡ overlaid n all old → new' ≡ overlaid n all old → new ≡ new'
 copy_out_determined n all old new new' p q = p ∙ sym q
 
-pub copy_in_determined : (rows : List Row) (c c' : Columns) → c ≡ columns_of rows → c' ≡ columns_of rows → c ≡ c'
-copy_in_determined rows c c' p q = p ∙ sym q
+pub store_roots_determined : (n : ℕ) (read old new new' : List ℕ) → new ≡ overlaid n read old → new' ≡ overlaid n read old → new ≡ new'
+store_roots_determined n read old new new' p q = p ∙ sym q
+
+-- What is held of a refusal, and what a reply reports.
+pub refusal_determined : (why : Refusal) (r r' : Result Held Refusal) → r ≡ held_of (refused why) → r' ≡ held_of (refused why) → r ≡ r'
+refusal_determined why r r' p q = p ∙ sym q
+
+pub reported_determined : (w : Reading) (r r' : Result Room Refusal) → r ≡ reply_of w → r' ≡ reply_of w → r ≡ r'
+reported_determined w r r' p q = p ∙ sym q
+
+-- The result of copying these rows is one.
+copied_once : (rows : List Row) (r r' : Result Columns Refusal) → Copied rows r → Copied rows r' → r ≡ r'
+copied_once rows (Ok c) (Ok c') p q =
+    ap (λ (d : Columns). Ok d) (same_columns c c' (p.0 ∙ sym q.0) (p.1 ∙ sym q.1) (p.2 ∙ sym q.2) (p.3 ∙ sym q.3))
+copied_once rows (Ok c) (Err why) p q = let fits : c.rows ≤ row_ceiling = c.fits in absurd (omega arith)
+copied_once rows (Err why) (Ok c) p q = let fits : c.rows ≤ row_ceiling = c.fits in absurd (omega arith)
+copied_once rows (Err why) (Err why') p q = cc
+
+pub of_determined : (κs a r r' s s' : _) → of-post κs a r s → of-post κs a r' s' → r ≡ r'
+of_determined κs a r r' s s' p q = copied_once a.0.now r r' p q
+
+-- The columns of `first_of`.
+pub copy_in_determined : (κs a r r' s s' : _) → first-of-post κs a r s → first-of-post κs a r' s' → r ≡ r'
+copy_in_determined κs a r r' s s' p q = p ∙ sym q
+
+-- The table of columns is one as far as lists go: where its slices lie is no matter of the contract.
+pub table_determined : (κs a r r' s s' : _) → table-post κs a r s → table-post κs a r' s' → lists_of r ≡ lists_of r'
+table_determined κs a r r' s s' p q = p ∙ sym q

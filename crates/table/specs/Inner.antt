@@ -1,14 +1,11 @@
 -- Only the contracts of functions below the entries speak of these: rows and roots held in arrays, laid over lent places, and copied.
-use Rattle.std.specs.Prelude.{List, [], ◌∷◌, ℕ, zero, suc, replicate}
+use Rattle.std.specs.Prelude.{List, [], ◌∷◌, ℕ, zero, suc, replicate, Result, Ok, Err}
 use Rattle.numbers.specs.General.{laid}
 use Rattle.numbers.specs.Sizes.{ours, row_ceiling}
-use Rattle.recipe.specs.Records.{kinds_of, xs_of, ys_of}
+use Rattle.numbers.specs.declared.Refusal.{Refusal}
 use Rattle.recipe.specs.declared.Row.{Row}
-use Rattle.table.specs.Reading.{Reading, rows_of, roots_of, reply_of}
-use Rattle.table.specs.declared.Columns.{Columns}
+use Rattle.table.specs.Reading.{Reading, table, refused, counted}
 use Rattle.table.specs.declared.Held.{Held}
-use Rattle.table.specs.declared.Read.{Read}
-use Rattle.table.specs.declared.Read.TheVariants.{Stored, Refused}
 
 -- The first n of the new elements over the first of the old ones, as far as both go; the old ones after them stay.
 unfoldable pub overlaid : {A : Type 0} → ℕ → List A → List A → List A
@@ -33,24 +30,19 @@ no_rows = replicate row_ceiling blank
 unfoldable pub no_roots : List ℕ
 no_roots = replicate ours.procs 0
 
--- What is held of a reading: its rows and roots, with zeros after them, and its reply.
-abbrev pub held_of : Reading → Held
-held_of w = record { rows = laid (rows_of w) no_rows; roots = laid (roots_of w) no_roots; reply = reply_of w }
+-- What is held of these rows and roots: they, with zeros after them, and how many they are.
+abbrev pub holding : List Row → List ℕ → Held
+holding rows roots = record { rows = laid rows no_rows; roots = laid roots no_roots; kept = counted rows roots }
+
+-- What is held where nothing was read.
+abbrev pub empty : Held
+empty = holding [] []
+
+-- What is held of a reading, or its refusal.
+abbrev pub held_of : Reading → Result Held Refusal
+held_of (table rows roots) = Ok (holding rows roots)
+held_of (refused why) = Err why
 
 -- The first numbers, as many as a table can have rows, with zeros after them.
 abbrev pub column : List ℕ → List ℕ
 column numbers = overlaid row_ceiling numbers (zeros row_ceiling)
-
--- The fields of rows, each in a column of its own.
-abbrev pub columns_of : List Row → Columns
-columns_of rows = record { kinds = column (kinds_of rows); xs = column (xs_of rows); ys = column (ys_of rows) }
-
--- The number of rows that a reply reports, 0 where it refuses.
-abbrev pub row_count : Read → ℕ
-row_count (Stored n m) = n
-row_count (Refused why) = 0
-
--- The number of roots that a reply reports, 0 where it refuses.
-abbrev pub root_count : Read → ℕ
-root_count (Stored n m) = m
-root_count (Refused why) = 0

@@ -6,6 +6,7 @@ use Prim.Native.Nat.{ℕ, ◌≤◌, ◌<◌}
 use native.Mathlib.Omega.{arith}
 use lib.Dec.{leb}
 use borrow.Author.Tests.{leb-true, le-leb, lt-leb}
+use Rattle.std.specs.Char.{is_ascii_digit}
 use Rattle.text.specs.Bytes.{digit, is_digit, tab, newline}
 
 both_true : (s t : Bool) → s && t ≡ true → (s ≡ true) × (t ≡ true)
@@ -17,6 +18,11 @@ unfolding is_digit
 digit_bounds b e =
     let p = both_true (leb (digit 0) b) (leb b (digit 9)) e in
     (leb-true (digit 0) b p.0, leb-true b (digit 9) p.1)
+
+-- Std's test is ours.
+pub std_digit : (b : ℕ) → is_ascii_digit b ≡ is_digit b
+unfolding is_digit
+std_digit b = refl
 
 pub from_zero : (b : ℕ) → digit 0 ≤ b → is_digit b ≡ leb b (digit 9)
 unfolding is_digit

@@ -6,6 +6,6 @@ pub mod FieldForms
 pub mod TokenLaws
 pub mod LineLaws
 pub mod PutLaws
-pub mod TurnLoops
+pub mod Takes
 pub mod Unique
 mod Examples

@@ -3,3 +3,4 @@ pub mod Numbers
 pub mod Fields
 pub mod Lines
 pub mod Inner
+pub mod Sinks

@@ -1,70 +1,46 @@
 // Texts as bytes: the fields of a line, read at a place of some bytes and put at a place of lent bytes.
+// Bytes and place go side by side, as the contracts of the public functions have them; above, a sink's `Front` carries both.
 #![tactic(auto)]
 
 ghost use Rattle.std.specs.Prelude.{◌≡◌, ◌∷◌, [], ◌++◌, ◌+◌, ◌*◌, ◌^◌, ◌≤◌, ◌<◌, length, drop};
-ghost use Rattle.text.specs.Bytes.{digit, is_digit};
+ghost use Rattle.text.specs.Bytes.{digit};
 ghost use Rattle.text.specs.Numbers.{spelled};
 ghost use Rattle.text.specs.Fields.{text_at, digits_at, digits_after, number_at};
 ghost use Rattle.text.specs.Inner.{token_at, Put, field_of, Ahead};
 
-// A field that was found, with its number and the place behind it, or none of the right form.
-#[derive(Clone, Copy)]
-pub enum Token {
-    Found(u16, usize),
-    Missing,
-}
+pub use sink::{Count, Front, Sink};
 
-// Reads a fixed text at a place of the bytes: the number n where it stands there.
-pub fn text_at(bytes: &[u8], at: usize, text: &[u8], n: u16) -> Token
+mod sink;
+
+// Reads a fixed text at a place of the bytes: the number n and the place behind the text, where it stands there.
+pub fn text_at(bytes: &[u8], at: usize, text: &[u8], n: u16) -> Option<(u16, usize)>
     ensures { result ≡ token_at (text_at text.now n) bytes.now at }
 {
-    let mut next = at;
-    let mut i = 0;
-    while i < text.len() {
-        if bytes.len() <= next {
-            return Token::Missing;
-        }
-        if bytes[next] != text[i] {
-            return Token::Missing;
-        }
-        next += 1;
-        i += 1;
+    let here = bytes.get(at..).unwrap_or(&[]);
+    if here.starts_with(text) {
+        Some((n, at + text.len()))
+    } else {
+        None
     }
-    Token::Found(n, next)
 }
 
-// Whether a byte is a digit.
-fn is_digit(b: u8) -> bool
-    ensures { result ≡ is_digit b }
-{
-    if b'0' <= b { b <= b'9' } else { false }
-}
-
-// The number that begins with the digits of another and goes on at this place, by at most so many digits, up to a byte.
-fn digits_at(bytes: &[u8], at: usize, stop: u8, most: u8, first: u16) -> Token
+// The number that begins with the digits of another and goes on with these bytes, by at most so many digits, up to a byte, and how many bytes that takes.
+fn digits_at(bytes: &[u8], stop: u8, most: u8, first: u16) -> Option<(u16, usize)>
     requires { (first + 1) * 10 ^ most ≤ 10000 }
-    ensures field { field_of bytes.now result ≡ digits_at stop most first (drop at bytes.now) }
-    ensures ahead { Ahead bytes.now at result }
+    ensures field { field_of bytes.now result ≡ digits_at stop most first bytes.now }
+    ensures within { Ahead bytes.now 0 result }
 {
-    let mut next = at;
-    let mut more = most;
     let mut n = first;
-    while next < bytes.len() {
-        let b = bytes[next];
-        if b == stop {
-            return Token::Found(n, next + 1);
+    for (i, b) in bytes.iter().enumerate() {
+        if *b == stop {
+            return Some((n, i + 1));
         }
-        if more == 0 {
-            return Token::Missing;
+        if i == most as usize || !b.is_ascii_digit() {
+            return None;
         }
-        if !is_digit(b) {
-            return Token::Missing;
-        }
-        n = 10 * n + (b - b'0') as u16;
-        more -= 1;
-        next += 1;
+        n = 10 * n + u16::from(*b - b'0');
     }
-    Token::Missing
+    None
 }
 
 // How many digits may follow a number's first.
@@ -74,18 +50,16 @@ fn digits_after(b: u8) -> u8
     if b == b'0' { 0 } else { 3 }
 }
 
-// Reads a number at a place of the bytes, up to the byte that ends its field.
-pub fn number_at(bytes: &[u8], at: usize, stop: u8) -> Token
+// Reads a number at a place of the bytes, up to the byte that ends its field: the number and the place behind that byte.
+pub fn number_at(bytes: &[u8], at: usize, stop: u8) -> Option<(u16, usize)>
     ensures { result ≡ token_at (number_at stop) bytes.now at }
 {
-    if bytes.len() <= at {
-        return Token::Missing;
+    let (b, rest) = bytes.get(at..)?.split_first()?;
+    if !b.is_ascii_digit() {
+        return None;
     }
-    let b = bytes[at];
-    if !is_digit(b) {
-        return Token::Missing;
-    }
-    digits_at(bytes, at + 1, stop, digits_after(b), (b - b'0') as u16)
+    let (n, taken) = digits_at(rest, stop, digits_after(*b), u16::from(*b - b'0'))?;
+    Some((n, at + 1 + taken))
 }
 
 // How many digits a number is spelled with.
@@ -153,7 +127,7 @@ fn put_short(bytes: &mut [u8], at: usize, n: usize) -> usize
     put_digits(bytes, at, n)
 }
 
-// Puts a number and the byte that ends its field, and hands back the next place.
+// Puts a number and the byte that ends its field, and hands back the next place. A `Display` would need a writer over the lent bytes with this contract.
 pub fn put_number(bytes: &mut [u8], at: usize, n: usize, end: u8) -> usize
     ensures { Put bytes.old at (spelled n ++ (end ∷ [])) bytes.new result }
 {
@@ -166,10 +140,8 @@ fn put_bytes(bytes: &mut [u8], at: usize, text: &[u8]) -> usize
     ensures { Put bytes.old at text.now bytes.new result }
 {
     let mut next = at;
-    let mut k = 0;
-    while k < text.len() {
-        next = put_byte(bytes, next, text[k]);
-        k += 1;
+    for b in text {
+        next = put_byte(bytes, next, *b);
     }
     next
 }

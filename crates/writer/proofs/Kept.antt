@@ -1,6 +1,6 @@
 -- A table that keeps the writer's rules is one whose records and roots fields can hold, few enough and whole: each rule is one of these facts.
 -- Assumes nothing.
-use mathlib.Core.Bool.{Bool, true, false, not, ◌||◌}
+use mathlib.Core.Bool.{false, not, ◌||◌}
 use mathlib.Core.List.{List, [], ◌∷◌}
 use mathlib.Core.Path.{◌≡◌, refl, sym, subst}
 use Prim.Native.Nat.{ℕ, zero, suc, ◌≤◌, ◌<◌}
@@ -8,15 +8,18 @@ use native.Mathlib.Nat.{le_refl, le_of_suc-le-suc, not-suc-le-zero}
 use native.Mathlib.Omega.{arith}
 use borrow.Author.Tests.{ltb-false, not-false, le-ltb, le-leb, eq-eqb}
 use lib.ListN.{length, get_or, length-map}
+use Rattle.std.proofs.lemmas.Bool.{or_parts, or_from}
 use Rattle.numbers.specs.General.{in_turn}
 use Rattle.numbers.specs.Sizes.{Size, row_ceiling}
 use Rattle.recipe.specs.Offences.{KeepsRules}
 use Rattle.recipe.specs.Records.{table_of_rows}
 use Rattle.recipe.specs.Tables.{Table, rows, procs, kind_at, x_at, y_at, root_at}
 use Rattle.recipe.specs.declared.Row.{Row}
+use Rattle.recipe.proofs.Offences.{keeps_of}
 use Rattle.sheet.specs.Form.{Short, ShortRow, Every}
 use Rattle.sheet.proofs.Outcomes.{every_more}
 use Rattle.table.specs.Inner.{blank}
+use Rattle.writer.specs.Inner.{IsWritable}
 use Rattle.writer.specs.Rules.{sizes_writable, too_long, table_rules}
 use Rattle.writer.specs.Sheets.{row_at, records_of}
 use Rattle.writer.proofs.Judging.{sized, sizes_pass}
@@ -39,15 +42,6 @@ every_in_turn P f zero e = tt
 every_in_turn P f (suc n) e =
     every_more P (in_turn n (λ i. f i ∷ [])) (f n) (every_in_turn P f n (λ i h. e i (omega arith))) (e n (le_refl (suc n)))
 
--- ---- the tests
-
-pub or_neither : (a b : Bool) → a || b ≡ false → (a ≡ false) × (b ≡ false)
-or_neither true b e = let z : ◌≡◌ {A = ℕ} 0 1 = cc in absurd (omega arith)
-or_neither false b e = (refl, e)
-
-neither_or : (a b : Bool) → a ≡ false → b ≡ false → a || b ≡ false
-neither_or a b p q = rw (p, q)
-
 -- ---- the rules as facts
 
 -- What the rules say of a table, the room for its sheet aside.
@@ -69,7 +63,7 @@ module _ (z : Size) (t : Table) where
         xs_whole = sizes.xs_match;
         ys_whole = sizes.ys_match;
         rows_short = every_in_turn ShortRow (row_at t) (rows t) (λ i h.
-            let short = or_neither (too_long (x_at t i)) (too_long (y_at t i)) (k.1.1.0 i h) in
+            let short = or_parts (too_long (x_at t i)) (too_long (y_at t i)) (k.1.1.0 i h) in
             record {
               kind = ltb-false 6 (kind_at t i) (k.1.0 i h);
               x = ltb-false 9999 (x_at t i) short.0;
@@ -77,6 +71,10 @@ module _ (z : Size) (t : Table) where
             });
         roots_short = at_every Short t.roots 0 (λ f h. ltb-false 9999 (root_at t f) (k.1.1.1.0 f h));
       }
+
+-- What a table keeps that the writer's judge admits.
+pub writable_keeps : (z : Size) (t : Table) → IsWritable z t → Kept z t
+writable_keeps z t ok = kept z t (keeps_of (table_rules z t) ok)
 
 -- The table of so few short records and roots keeps the rules.
 module _ (z : Size) (records : List Row) (roots : List ℕ) where
@@ -101,7 +99,7 @@ module _ (z : Size) (records : List Row) (roots : List ℕ) where
 
       operands_short : (i : ℕ) → i < rows made → too_long (x_at made i) || too_long (y_at made i) ≡ false
       operands_short i h =
-          neither_or (too_long (x_at made i)) (too_long (y_at made i)) (le-ltb 9999 (x_at made i) (short i h).x) (le-ltb 9999 (y_at made i) (short i h).y)
+          or_from (too_long (x_at made i)) (too_long (y_at made i)) (le-ltb 9999 (x_at made i) (short i h).x) (le-ltb 9999 (y_at made i) (short i h).y)
 
       sizes_right_lem : not (sizes_writable z (rows made) (length made.xs) (length made.ys) (procs made)) ≡ false
       sizes_right_lem =

@@ -1,5 +1,3 @@
-pub mod KeywordLaws
-pub mod LineLaws
 pub mod SheetLaws
 pub mod Judging
 pub mod Records

@@ -5,6 +5,7 @@ use mathlib.Core.Path.{◌≡◌, ap, ◌∙◌}
 use Prim.Native.Nat.{ℕ, ◌≤◌}
 use native.Mathlib.Omega.{arith}
 use lib.ListN.{length}
+use Rattle.std.specs.Prelude.{Ok}
 use Rattle.numbers.specs.Sizes.{Size, ours}
 use Rattle.recipe.specs.Offences.{KeepsRules}
 use Rattle.recipe.specs.Records.{table_of_rows}
@@ -17,13 +18,12 @@ use Rattle.table.specs.Reading.{table}
 use Rattle.writer.specs.Replies.{written}
 use Rattle.writer.specs.Rules.{table_rules}
 use Rattle.writer.specs.Sheets.{records_of, sheet_of, longest_sheet}
-use Rattle.writer.specs.declared.Written.TheVariants as reply
 use Rattle.writer.proofs.Kept.{kept, records_keep}
 use Rattle.writer.proofs.Records.{as_many_records, records_again}
 use Rattle.writer.proofs.Refusing.{written_keeps, kept_written}
 use Rattle.writer.proofs.Sizes.{sheet_short}
 
-module _ (z : Size) (t : Table) (room n : ℕ) (done : written z t room ≡ reply.Length n) where
+module _ (z : Size) (t : Table) (room n : ℕ) (done : written z t room ≡ Ok n) where
   -- The rules without the room.
   pub table_keeps : KeepsRules (table_rules z t)
   table_keeps = let k = written_keeps z t room n done in (k.0, (k.1.0, (k.1.1.0, (k.1.1.1.0, tt))))
@@ -31,7 +31,7 @@ module _ (z : Size) (t : Table) (room n : ℕ) (done : written z t room ≡ repl
 module _ (rowsLent rootsLent : ℕ) where
   -- ---- written, then read
 
-  module _ (t : Table) (room n : ℕ) (done : written ours t room ≡ reply.Length n) (rows_fit : rows t ≤ rowsLent) (roots_fit : procs t ≤ rootsLent) where
+  module _ (t : Table) (room n : ℕ) (done : written ours t room ≡ Ok n) (rows_fit : rows t ≤ rowsLent) (roots_fit : procs t ≤ rootsLent) where
     pub holdable : Holdable ours rowsLent rootsLent (records_of t) t.roots
     unfolding sheet_of
     holdable =
@@ -66,7 +66,7 @@ module _ (rowsLent rootsLent : ℕ) where
     pub read_short : length bytes ≤ longest_sheet
     read_short = omega (arith, ap length sheet_again, sheet_short (table_of_rows records roots) read_keeps)
 
-    pub written_again : (room : ℕ) → length bytes ≤ room → written ours (table_of_rows records roots) room ≡ reply.Length (length bytes)
+    pub written_again : (room : ℕ) → length bytes ≤ room → written ours (table_of_rows records roots) room ≡ Ok (length bytes)
     written_again room fits =
         kept_written ours (table_of_rows records roots) room read_keeps (omega (arith, ap length sheet_again))
-        ∙ ap (λ (s : List ℕ). reply.Length (length s)) sheet_again
+        ∙ ap (λ (s : List ℕ). Ok (length s)) sheet_again

@@ -2,8 +2,10 @@
 -- Assumes nothing.
 use mathlib.Core.Path.{◌≡◌, refl, sym, ap, ◌∙◌}
 use mathlib.Core.List.{List, [], ◌∷◌, ◌++◌, flat_map}
-use Prim.Native.Nat.{ℕ, zero, suc, ◌+◌}
-use lib.ListN.{length, get_or, length-append}
+use Prim.Native.Nat.{ℕ, zero, suc}
+use lib.ListN.{length, get_or}
+use Rattle.std.proofs.lemmas.List.Concat.{length-flat_map}
+use Rattle.std.specs.List.{sum_by}
 use Rattle.numbers.specs.General.{in_turn}
 use Rattle.numbers.proofs.InTurnLaws.{list_of_ones}
 use Rattle.recipe.specs.Tables.{Table, rows}
@@ -25,10 +27,12 @@ pub roots_in_turn : (roots : List ℕ) → flat_map spelled_root roots ≡ in_tu
 roots_in_turn roots =
     ap (flat_map spelled_root) (sym (list_of_ones roots 0)) ∙ lines_in_turn spelled_root (λ f. get_or roots f 0) (length roots)
 
+-- The length of lines is the sum of their lengths.
+pub length_lines : {A : Type 0} (f : A → List ℕ) (l : List A) → length (flat_map f l) ≡ sum_by (λ a. length (f a)) l
+unfolding flat_map
+length_lines f l = length-flat_map f l
+
 -- A sheet: the lines of the rows, then those of the roots.
 pub sheet_lines : (t : Table) → sheet_of t ≡ row_lines t ++ flat_map spelled_root t.roots
 unfolding sheet_of spell
 sheet_lines t = refl
-
-pub length_sheet : (t : Table) → length (sheet_of t) ≡ length (row_lines t) + length (flat_map spelled_root t.roots)
-length_sheet t = ap length (sheet_lines t) ∙ length-append (row_lines t) (flat_map spelled_root t.roots)

@@ -6,36 +6,34 @@ use Prim.Native.Nat.{ℕ, zero, suc, ◌+◌, ◌*◌, ◌≤◌, ◌<◌}
 use native.Mathlib.Nat.{le_refl}
 use native.Mathlib.Omega.{arith}
 use lib.ListN.{length, length-append, replicate, length-replicate}
+use Rattle.std.specs.Prelude.{Ok, Err}
+use Rattle.std.proofs.lemmas.Grind.{common_steps}
+use Rattle.std.proofs.lemmas.List.Folds.{sum_by-replicate}
 use Rattle.numbers.specs.Sizes.{ours, row_ceiling}
 use Rattle.numbers.specs.declared.Refusal.TheVariants.{ShortBytes}
 use Rattle.recipe.specs.Offences.{KeepsRules}
 use Rattle.recipe.specs.Records.{table_of_rows}
 use Rattle.recipe.specs.Tables.{Table}
 use Rattle.recipe.specs.declared.Row.{Row}
+use Rattle.recipe.proofs.Offences.{keeps_of}
 use Rattle.sheet.specs.Form.{keyword, spelled_row, spelled_root, spell, Short, ShortRow, Every}
 use Rattle.text.specs.Bytes.{ascii}
 use Rattle.text.specs.Numbers.{spelled_in, spelled}
 use Rattle.text.proofs.LineLaws.{length_first, length_ended}
 use Rattle.text.proofs.SpelledLaws.{spelled_four}
+use Rattle.writer.specs.Inner.{IsWritable}
 use Rattle.writer.specs.Replies.{written}
 use Rattle.writer.specs.Rules.{table_rules}
 use Rattle.writer.specs.Sheets.{records_of, sheet_of, longest_sheet}
-use Rattle.writer.specs.declared.Written.TheVariants as reply
 use Rattle.writer.proofs.Kept.{kept, records_keep}
 use Rattle.writer.proofs.Records.{as_many_records, records_again}
+use Rattle.writer.proofs.SheetLaws.{length_lines}
 use Rattle.writer.proofs.Refusing.{kept_written, kept_refused, room_told}
 
 -- ---- a line
 
 keyword_short : (kind : ℕ) → length (keyword kind) ≤ 6
-keyword_short zero = omega arith
-keyword_short (suc zero) = omega arith
-keyword_short (suc (suc zero)) = omega arith
-keyword_short (suc (suc (suc zero))) = omega arith
-keyword_short (suc (suc (suc (suc zero)))) = omega arith
-keyword_short (suc (suc (suc (suc (suc zero))))) = omega arith
-keyword_short (suc (suc (suc (suc (suc (suc zero)))))) = omega arith
-keyword_short (suc (suc (suc (suc (suc (suc (suc kind))))))) = omega arith
+keyword_short kind = grind (arith, common_steps)
 
 pub row_line_short : (row : Row) → ShortRow row → length (spelled_row row) ≤ 19
 unfolding spelled_row
@@ -71,9 +69,7 @@ module _ {A : Type 0} (f : A → List ℕ) where
       omega (arith, length-append (f a) (flat_map f l), each a e.0, lines_short P most each l e.1)
 
   lines_alike : (n : ℕ) (a : A) → length (flat_map f (replicate n a)) ≡ n * length (f a)
-  unfolding flat_map
-  lines_alike zero a = omega arith
-  lines_alike (suc n) a = omega (arith, length-append (f a) (flat_map f (replicate n a)), lines_alike n a)
+  lines_alike n a = length_lines f (replicate n a) ∙ sum_by-replicate (λ (b : A). length (f b)) n a
 
 -- ---- a sheet
 
@@ -93,13 +89,17 @@ sheet_short t k =
       facts.few_procs,
     )
 
+-- The same of a table that the writer's judge admits.
+pub writable_short : (t : Table) → IsWritable ours t → length (sheet_of t) ≤ longest_sheet
+writable_short t ok = sheet_short t (keeps_of (table_rules ours t) ok)
+
 -- With room for the longest sheet, every table that keeps the rules is written.
 pub room_enough :
-    (t : Table) (room : ℕ) → KeepsRules (table_rules ours t) → longest_sheet ≤ room → written ours t room ≡ reply.Length (length (sheet_of t))
+    (t : Table) (room : ℕ) → KeepsRules (table_rules ours t) → longest_sheet ≤ room → written ours t room ≡ Ok (length (sheet_of t))
 room_enough t room k enough = kept_written ours t room k (omega (arith, sheet_short t k))
 
 -- And no table at all gets 14.
-pub never_short : (t : Table) (room : ℕ) → longest_sheet ≤ room → written ours t room ≡ reply.Refused ShortBytes → ⊥
+pub never_short : (t : Table) (room : ℕ) → longest_sheet ≤ room → written ours t room ≡ Err ShortBytes → ⊥
 never_short t room enough e = let told = room_told ours t room e in absurd (omega (arith, told.1, sheet_short t told.0, enough))
 
 -- ---- the longest
@@ -148,6 +148,6 @@ pub longest_there_is :
     KeepsRules (table_rules ours (long_table row_ceiling ours.procs)) × (length (sheet_of (long_table row_ceiling ours.procs)) ≡ longest_sheet)
 longest_there_is = (long_keeps row_ceiling ours.procs (le_refl row_ceiling) (le_refl ours.procs), long_sheet row_ceiling ours.procs)
 
-pub longest_needs_its_room : (room : ℕ) → room < longest_sheet → written ours (long_table row_ceiling ours.procs) room ≡ reply.Refused ShortBytes
+pub longest_needs_its_room : (room : ℕ) → room < longest_sheet → written ours (long_table row_ceiling ours.procs) room ≡ Err ShortBytes
 longest_needs_its_room room short =
     kept_refused ours (long_table row_ceiling ours.procs) room longest_there_is.0 (omega (arith, longest_there_is.1))

@@ -1,10 +1,10 @@
 -- When a table can be written into so many bytes, and in which order that is tried.
-use Rattle.std.specs.Prelude.{Bool, not, ◌&&◌, ◌||◌, List, [], ◌∷◌, ◌++◌, ℕ, eqb, leb, ltb, length}
+use Rattle.std.specs.Prelude.{Bool, not, ◌&&◌, ◌||◌, List, [], ◌∷◌, ◌++◌, ℕ, eqb, leb, ltb, length, Result}
 use Rattle.numbers.specs.Sizes.{Size, row_ceiling}
 use Rattle.numbers.specs.declared.Refusal.TheVariants.{Sizes, ShortBytes, LongOperand, LongRoot}
+use Rattle.numbers.specs.declared.Refusal.{Refusal}
 use Rattle.recipe.specs.Rules.{Rule, kind_rule, judged_by}
 use Rattle.recipe.specs.Tables.{Table, rows, procs, x_at, y_at, root_at}
-use Rattle.recipe.specs.declared.Judged.{Judged}
 use Rattle.writer.specs.Sheets.{sheet_of}
 
 -- Whether rows and procedures are not too many, and there are as many of each operand as rows. No rows, no procedures or neither is right too.
@@ -46,5 +46,5 @@ abbrev pub writer_rules : Size → Table → ℕ → List Rule
 writer_rules z t room = table_rules z t ++ (room_rule t room ∷ [])
 
 -- What the writer's judge replies to a table and so many bytes.
-unfoldable pub writable : Size → Table → ℕ → Judged
+unfoldable pub writable : Size → Table → ℕ → Result Unit Refusal
 writable z t room = judged_by (writer_rules z t room)

@@ -1,170 +1,95 @@
-// The lines of a sheet: how long they are, and how they are put at a place of lent bytes. The bounds on lengths leave much to spare: they
-// only keep the sums within a machine number.
-ghost use Rattle.std.specs.Prelude.{◌≡◌, ◌*◌, ◌≤◌, length};
+// The lines of a sheet, told to a sink.
+ghost use Rattle.std.specs.Prelude.{◌≡◌, ◌*◌, ◌≤◌, ◌<◌, length};
 ghost use mathlib.Core.List.{◌∷◌, [], ◌++◌, flat_map};
-ghost use Rattle.numbers.specs.General.{laid};
 ghost use Rattle.numbers.specs.Sizes.{ours, row_ceiling};
 ghost use Rattle.text.specs.Bytes.{tab};
-ghost use Rattle.text.specs.Inner.{Put};
-ghost use Rattle.recipe.specs.Inner.{rows_alone};
-ghost use Rattle.recipe.specs.Tables.{table_of};
+ghost use Rattle.recipe.specs.Tables.{rows, lists_of};
 ghost use Rattle.sheet.specs.Form.{keyword, spelled_row, spelled_root};
-ghost use Rattle.writer.specs.Sheets.{sheet_of};
-ghost use Rattle.writer.specs.Inner.{row_lines};
+ghost use Rattle.writer.specs.Sheets.{row_at, sheet_of};
+ghost use Rattle.writer.specs.Inner.{row_lines, IsWritable};
 
 use numbers::RowNumber;
-use recipe::Row;
-use text::{digits, put_byte, put_number, put_text};
+use recipe::{Kind, Row, Table};
+use text::Sink;
 
-// The length of a kind's keyword.
-fn keyword_length(kind: u8) -> usize
-    ensures { (result ≡ length (keyword kind)) × (result ≤ 6) }
+// Tells a kind's keyword and the tab behind it. Each arm tells its own: to find the keyword and tell it afterwards takes an eighth more
+// instructions for a whole sheet.
+fn keyword<S: Sink>(out: &mut S, kind: u8)
+    ensures { S.takes out.old (keyword kind ++ (tab ∷ [])) out.new }
 {
-    match kind {
-        0 => 4,
-        1 => 4,
-        2 => 3,
-        3 => 4,
-        4 => 5,
-        5 => 6,
-        6 => 4,
-        7..=255 => 0,
+    match Kind::try_from(kind) {
+        Ok(Kind::Skip) => out.text(b"skip", b'\t'),
+        Ok(Kind::Step) => out.text(b"step", b'\t'),
+        Ok(Kind::Seq) => out.text(b"seq", b'\t'),
+        Ok(Kind::Loop) => out.text(b"loop", b'\t'),
+        Ok(Kind::Async) => out.text(b"async", b'\t'),
+        Ok(Kind::Finish) => out.text(b"finish", b'\t'),
+        Ok(Kind::Call) => out.text(b"call", b'\t'),
+        Err(_) => out.text(b"", b'\t'),
     }
 }
 
-// Puts a kind's keyword and the tab behind it.
-fn put_keyword(bytes: &mut [u8], at: usize, kind: u8) -> usize
-    ensures { Put bytes.old at (keyword kind ++ (tab ∷ [])) bytes.new result }
+// Tells a row's line.
+fn row_line<S: Sink>(out: &mut S, row: Row)
+    ensures { S.takes out.old (spelled_row row) out.new }
 {
-    match kind {
-        0 => put_text(bytes, at, b"skip", b'\t'),
-        1 => put_text(bytes, at, b"step", b'\t'),
-        2 => put_text(bytes, at, b"seq", b'\t'),
-        3 => put_text(bytes, at, b"loop", b'\t'),
-        4 => put_text(bytes, at, b"async", b'\t'),
-        5 => put_text(bytes, at, b"finish", b'\t'),
-        6 => put_text(bytes, at, b"call", b'\t'),
-        7..=255 => put_byte(bytes, at, b'\t'),
+    out.text(b"R", b'\t');
+    keyword(out, row.kind);
+    out.number(usize::from(row.x), b'\t');
+    out.number(usize::from(row.y), b'\n');
+}
+
+// Tells a procedure's line.
+fn root_line<S: Sink>(out: &mut S, root: RowNumber)
+    ensures { S.takes out.old (spelled_root root.0) out.new }
+{
+    out.text(b"P", b'\t');
+    out.number(usize::from(root.0), b'\n');
+}
+
+// A table that the writer's judge admits.
+#[derive(Clone, Copy)]
+pub(crate) struct Writable<'a> {
+    pub(crate) table: Table<'a>,
+    ghost admitted: { IsWritable ours (lists_of table) },
+}
+
+impl Writable<'_> {
+    // The row with this number.
+    fn row(&self, i: usize) -> Row
+        requires { i < rows (lists_of self.now.table) }
+        ensures { result ≡ row_at (lists_of self.now.table) i }
+    {
+        Row {
+            kind: self.table.kinds[i],
+            x: self.table.xs[i],
+            y: self.table.ys[i],
+        }
     }
-}
 
-// The length of a row's line. Five bytes are the same in each: `R`, three tabs and the newline.
-fn row_length(row: Row) -> usize
-    ensures { (result ≡ length (spelled_row row)) × (result ≤ 51) }
-{
-    keyword_length(row.kind) + digits(row.x as usize) + digits(row.y as usize) + 5
-}
-
-// Puts a row's line.
-fn put_row(bytes: &mut [u8], at: usize, row: Row) -> usize
-    ensures { Put bytes.old at (spelled_row row) bytes.new result }
-{
-    let at = put_text(bytes, at, b"R", b'\t');
-    let at = put_keyword(bytes, at, row.kind);
-    let at = put_number(bytes, at, row.x as usize, b'\t');
-    put_number(bytes, at, row.y as usize, b'\n')
-}
-
-// The length of a procedure's line. Three bytes are the same in each: `P`, the tab and the newline.
-fn root_length(root: RowNumber) -> usize
-    ensures { (result ≡ length (spelled_root root.0)) × (result ≤ 23) }
-{
-    digits(root.0 as usize) + 3
-}
-
-// Puts a procedure's line.
-fn put_root(bytes: &mut [u8], at: usize, root: RowNumber) -> usize
-    ensures { Put bytes.old at (spelled_root root.0) bytes.new result }
-{
-    let at = put_text(bytes, at, b"P", b'\t');
-    put_number(bytes, at, root.0 as usize, b'\n')
-}
-
-// The length of the lines of all rows.
-fn rows_length(kinds: &[u8], xs: &[u16], ys: &[u16]) -> usize
-    requires few { length kinds.now ≤ row_ceiling }
-    requires whole { (length xs.now ≡ length kinds.now) × (length ys.now ≡ length kinds.now) }
-    ensures spelt { result ≡ length (row_lines (rows_alone kinds.now xs.now ys.now)) }
-    ensures few { result ≤ 51 * row_ceiling }
-{
-    let mut sum = 0;
-    let mut i = 0;
-    while i < kinds.len() {
-        sum += row_length(Row {
-            kind: kinds[i],
-            x: xs[i],
-            y: ys[i],
-        });
-        i += 1;
+    // Tells the lines of all rows. By number, since a zip of the three columns would say once more what `row` says.
+    fn rows<S: Sink>(&self, out: &mut S)
+        ensures { S.takes out.old (row_lines (lists_of self.now.table)) out.new }
+    {
+        for i in 0..self.table.kinds.len() {
+            row_line(out, self.row(i));
+        }
     }
-    sum
-}
 
-// Puts the lines of all rows to the front of the bytes.
-fn put_rows(bytes: &mut [u8], kinds: &[u8], xs: &[u16], ys: &[u16]) -> usize
-    requires { (length xs.now ≡ length kinds.now) × (length ys.now ≡ length kinds.now) }
-    ensures { let t = rows_alone kinds.now xs.now ys.now in
-        Put bytes.old 0 (row_lines t) bytes.new result }
-{
-    let mut next = 0;
-    let mut i = 0;
-    while i < kinds.len() {
-        let row = Row {
-            kind: kinds[i],
-            x: xs[i],
-            y: ys[i],
-        };
-        next = put_row(bytes, next, row);
-        i += 1;
+    // Tells the lines of all procedures.
+    fn roots<S: Sink>(&self, out: &mut S)
+        ensures { S.takes out.old (flat_map spelled_root (lists_of self.now.table).roots) out.new }
+    {
+        for &root in self.table.roots {
+            root_line(out, RowNumber(root));
+        }
     }
-    next
-}
 
-// The length of the lines of all procedures.
-fn roots_length(roots: &[u16]) -> usize
-    requires { length roots.now ≤ ours.procs }
-    ensures spelt { result ≡ length (flat_map spelled_root roots.now) }
-    ensures few { result ≤ 23 * ours.procs }
-{
-    let mut sum = 0;
-    let mut f = 0;
-    while f < roots.len() {
-        sum += root_length(RowNumber(roots[f]));
-        f += 1;
+    // Tells the table's sheet.
+    pub(crate) fn tell<S: Sink>(&self, out: &mut S)
+        ensures { S.takes out.old (sheet_of (lists_of self.now.table)) out.new }
+    {
+        self.rows(out);
+        self.roots(out);
     }
-    sum
-}
-
-// Puts the lines of all procedures.
-fn put_roots(bytes: &mut [u8], at: usize, roots: &[u16]) -> usize
-    ensures { Put bytes.old at (flat_map spelled_root roots.now) bytes.new result }
-{
-    let mut next = at;
-    let mut f = 0;
-    while f < roots.len() {
-        next = put_root(bytes, next, RowNumber(roots[f]));
-        f += 1;
-    }
-    next
-}
-
-// The length of a table's sheet.
-pub(crate) fn sheet_length(kinds: &[u8], xs: &[u16], ys: &[u16], roots: &[u16]) -> usize
-    requires few { (length kinds.now ≤ row_ceiling) × (length roots.now ≤ ours.procs) }
-    requires whole { (length xs.now ≡ length kinds.now) × (length ys.now ≡ length kinds.now) }
-    ensures { let t = table_of kinds.now xs.now ys.now roots.now in
-        result ≡ length (sheet_of t) }
-{
-    rows_length(kinds, xs, ys) + roots_length(roots)
-}
-
-// Puts a table's sheet to the front of the bytes.
-pub(crate) fn put_sheet(bytes: &mut [u8], kinds: &[u8], xs: &[u16], ys: &[u16], roots: &[u16])
-    requires whole { (length xs.now ≡ length kinds.now) × (length ys.now ≡ length kinds.now) }
-    requires fits { length (sheet_of (table_of kinds.now xs.now ys.now roots.now)) ≤ length bytes.old }
-    ensures { let t = table_of kinds.now xs.now ys.now roots.now in
-        bytes.new ≡ laid (sheet_of t) bytes.old }
-{
-    let at = put_rows(bytes, kinds, xs, ys);
-    put_roots(bytes, at, roots);
 }

@@ -1,20 +1,17 @@
--- The line is put where it fits, and else nothing is.
-use mathlib.Core.Path.{ap₂}
-use Rattle.std.proofs.Common.{◌≤◌, ℕ, List, length, arith}
-use Rattle.text.proofs.PutLaws.{put_front}
-use Rattle.answer.specs.Answer.{refused_line}
-use Rattle.answer.proofs.ReplyLaws.{no_room_lem, with_room, answered_as}
+-- The line is put to a place of its own, which has room for it, and copied from there to the front of the bytes.
+use Rattle.std.proofs.Common.{Ok, length, ap, ◌∙◌, arith}
+use Rattle.text.proofs.PutLaws.{put_front, put_length}
+use Rattle.listing.proofs.ReplyLaws.{fits}
+use Rattle.answer.specs.Answer.{refusal_line}
+use Rattle.answer.proofs.ReadLaws.{front_taken}
 use Rattle.answer.proofs.refuse.Goals as goal
-
-pub returns-then-bytes-needed : goal.returns-then-bytes-needed
-returns-then-bytes-needed c =
-    answered_as (ap₂ refused_line c.number-number.ensures c.place-place.ensures)
-    (no_room_lem (refused_line c.number-number.result c.place-place.result) c.args.bytes.now
-    (omega (arith, c.refusal_length-needed.ensures, c.if-bytes-needed.true)))
 
 pub returns : goal.returns
 returns c =
-    let text : List ℕ = refused_line c.number-number.result c.place-place.result in
-    let room : length text ≤ length c.args.bytes.now = omega (arith, c.refusal_length-needed.ensures, c.if-bytes-needed.false) in
-    answered_as (ap₂ refused_line c.number-number.ensures c.place-place.ensures)
-    (with_room text c.args.bytes.now room c.refusal_length-needed.ensures (put_front room c.put_refusal.ensures))
+    let given = c.put_refusal-needed.ensures in
+    let counted = put_length given.short given.line in
+    let stands = front_taken (record { old = _; over = put_front given.short given.line }) counted in
+    record {
+      said = ap Ok counted ∙ fits (refusal_line c.args.refusal) (length c.args.bytes.now) (omega (arith, counted, c.if-bytes-needed.false));
+      held = cc (counted, stands, c.copy_from_slice.ensures.after);
+    }

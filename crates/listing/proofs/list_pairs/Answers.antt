@@ -1,27 +1,26 @@
--- A refusal of the judge is handed on and nothing is written, and an admitted table is listed.
-use Rattle.std.proofs.Common.{length, sym, ◌∙◌}
-use Rattle.numbers.specs.Sizes.{ours}
-use Rattle.recipe.specs.Tables.{table_of}
-use Rattle.recipe.proofs.WithMatrix.{admitted_with}
-use Rattle.listing.proofs.ReplyLaws.{refused_listing, admitted_listing}
+-- What the judge refuses is handed on and leaves what was lent; what it admits has the listing of an admitted table.
+use Rattle.std.proofs.Common.{rules}
+use Rattle.analysis.specs.Replies.{matrix_after}
+use Rattle.listing.specs.Replies.{listed, matrix_listed, bytes_listed}
+use Rattle.listing.proofs.ReplyLaws.{in_order}
 use Rattle.listing.proofs.list_pairs.Goals as goal
 
-pub list_admitted-requires : goal.list_admitted-requires
-list_admitted-requires c =
-    let t = table_of c.args.kinds.now c.args.xs.now c.args.ys.now c.args.roots.now in
-    admitted_with ours t (length c.args.matrix.now) (sym c.judge_with.ensures ∙ c.in-Admitted.is)
+pub returns-in_err-judge_with-clause-marks : goal.returns-in_err-judge_with-clause-marks
+unfolding listed matrix_listed
+returns-in_err-judge_with-clause-marks c = search (rules, in_order)
 
-pub returns-in-Refused : goal.returns-in-Refused
-returns-in-Refused c =
-    let t = table_of c.args.kinds.now c.args.xs.now c.args.ys.now c.args.roots.now in
-    let given = refused_listing ours t c.args.matrix.now c.args.bytes.now (sym c.judge_with.ensures ∙ c.in-Refused.is) in
-    record { reply = given.0; marks = given.1.0; text = given.1.1 }
+pub returns-in_err-judge_with-clause-text : goal.returns-in_err-judge_with-clause-text
+unfolding listed bytes_listed
+returns-in_err-judge_with-clause-text c = search (rules, in_order)
 
-pub returns-in-Admitted : goal.returns-in-Admitted
-returns-in-Admitted c =
-    let t = table_of c.args.kinds.now c.args.xs.now c.args.ys.now c.args.roots.now in
-    let called = c.list_admitted.ensures in
-    let given =
-    admitted_listing ours t c.args.matrix.now c.args.bytes.now (sym c.judge_with.ensures ∙ c.in-Admitted.is)
-    (record { said = called.reply; matrix = called.marks; bytes = called.text }) in
-    record { reply = given.0; marks = given.1.0; text = given.1.1 }
+pub returns-clause-reply : goal.returns-clause-reply
+unfolding listed
+returns-clause-reply c = search (rules, in_order)
+
+pub returns-clause-marks : goal.returns-clause-marks
+unfolding listed matrix_listed matrix_after
+returns-clause-marks c = search (rules, in_order)
+
+pub returns-clause-text : goal.returns-clause-text
+unfolding listed bytes_listed
+returns-clause-text c = search (rules, in_order)

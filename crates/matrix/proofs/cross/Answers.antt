@@ -1,7 +1,10 @@
--- Crossing with the empty set changes nothing, and else the loop changes each word that is there as a crossing does.
-use Rattle.std.proofs.Common.{sym, ◌∙◌}
-use Rattle.labels.proofs.InPlace.{begins, goes_on_lem, ends}
-use Rattle.matrix.proofs.OneWord.{crossed_one, crossed_none_left, crossed_none_right}
+-- Crossing with the empty set changes nothing, and else the partners of the one set are joined and then those of the other.
+use Rattle.std.proofs.Common.{sym, ap, ◌∙◌}
+use Rattle.numbers.specs.Sizes.{ours, matrix_words}
+use Rattle.labels.specs.Words.{changed}
+use Rattle.matrix.specs.Inner.{joining}
+use Rattle.matrix.proofs.OneWord.{crossed_none_left, crossed_none_right}
+use Rattle.matrix.proofs.Joining.{crossed_in_two}
 use Rattle.matrix.proofs.cross.Goals as goal
 use Rattle.matrix.proofs.cross.Goals.{then-a-eq0-via-then-a-eq0, then-a-eq0-via-else-a-eq0+then-b-eq0}
 
@@ -12,11 +15,8 @@ returns-then-a-eq0 c =
       | then-a-eq0-via-else-a-eq0+then-b-eq0 w ↦ sym (crossed_none_right c.args.a c.args.b c.args.matrix.now w.if-b-eq0.true)
     ]
 
-pub loop-i-init : goal.loop-i-init
-loop-i-init c = begins c.held-n.ensures
-
-pub loop-i-preserved : goal.loop-i-preserved
-loop-i-preserved c = goes_on_lem c.loop-i.invariant c.loop-i-test.true c.crossed_word.ensures
-
 pub returns : goal.returns
-returns c = ends c.loop-i.invariant c.loop-i-test.false ∙ sym (crossed_one c.args.a c.args.b c.args.matrix.now)
+returns c =
+    c.join_each-2.ensures
+    ∙ ap (changed (matrix_words ours.words) (joining c.args.b c.args.a)) c.join_each.ensures
+    ∙ crossed_in_two c.args.a c.args.b c.args.matrix.now

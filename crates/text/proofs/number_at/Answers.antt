@@ -1,26 +1,35 @@
 -- The first byte is a digit or there is no number, and the rest is what `digits_at` reads.
-use Rattle.std.proofs.Common.{sym, ◌∙◌}
-use Rattle.text.proofs.DigitLaws.{digit_bounds}
-use Rattle.text.proofs.FieldLoops.{no_number, no_number_here, number_here, first_digit_short}
-use Rattle.text.specs.declared.Token.TheVariants.{Missing}
-use Rattle.text.proofs.TokenLaws.{token_found, ahead_before}
+use Rattle.std.proofs.Common.{Some, None, sym, ◌∙◌, arith}
+use Rattle.text.proofs.DigitLaws.{std_digit}
+use Rattle.text.proofs.FieldLoops.{first_digit_short}
+use Rattle.text.proofs.TokenLaws.{no_number, no_number_here, number_here}
 use Rattle.text.proofs.number_at.Goals as goal
 
-pub returns-then-bytes-at : goal.returns-then-bytes-at
-returns-then-bytes-at c = token_found _ _ _ Missing (no_number _ _ _ c.if-bytes-at.true) tt
+pub returns-in_err-get : goal.returns-in_err-get
+returns-in_err-get c = c.from_residual.ensures ∙ no_number c.args.stop c.args.at c.args.bytes.now (omega (arith, c.in_err-get.ensures.lookup))
 
-pub returns-then-not-is_digit : goal.returns-then-not-is_digit
-returns-then-not-is_digit c =
-    token_found _ _ _ Missing (no_number_here _ _ _ c.if-bytes-at.false (sym c.if-not-is_digit.ensures)) tt
+pub returns-in_err-b : goal.returns-in_err-b
+returns-in_err-b c =
+    c.from_residual-in_err-b.ensures
+    ∙ no_number c.args.stop c.args.at c.args.bytes.now (omega (arith, c.in_ok-get.ensures.lookup.0.3, c.in_err-b.ensures.cases))
 
-pub overflow_sub-b : goal.overflow_sub-b
-overflow_sub-b c = (digit_bounds _ (sym c.if-not-is_digit.ensures)).0
+pub returns-then-not-is_ascii_digit : goal.returns-then-not-is_ascii_digit
+returns-then-not-is_ascii_digit c =
+    no_number_here c.args.stop c.args.at c.args.bytes.now _ _ c.in_ok-get.ensures.lookup.0.2 c.in_ok-b.ensures.cases.0
+    (sym (c.if-not-is_ascii_digit.ensures.value ∙ std_digit _))
 
 pub digits_at-requires : goal.digits_at-requires
-digits_at-requires c = first_digit_short _ _ (sym c.if-not-is_digit.ensures) c.digits_after.ensures
+digits_at-requires c =
+    rw c.from.ensures (first_digit_short _ _ (sym (c.if-not-is_ascii_digit.ensures.value ∙ std_digit _)) c.digits_after.ensures)
+
+pub returns-in_err-n : goal.returns-in_err-n
+returns-in_err-n c =
+    c.from_residual-in_err-n.ensures
+    ∙ number_here c.args.stop c.args.at c.args.bytes.now _ _ c.in_ok-get.ensures.lookup.0.2 c.in_ok-b.ensures.cases.0
+    (sym (c.if-not-is_ascii_digit.ensures.value ∙ std_digit _)) c.digits_after.ensures c.from.ensures None c.in_err-n.ensures.field tt
 
 pub returns : goal.returns
 returns c =
-    token_found _ _ _ c.digits_at.result
-    (c.digits_at.ensures.field ∙ number_here _ _ _ c.if-bytes-at.false (sym c.if-not-is_digit.ensures) c.digits_after.ensures)
-    (ahead_before c.args.bytes.now c.args.at c.digits_at.result c.if-bytes-at.false c.digits_at.ensures.ahead)
+    number_here c.args.stop c.args.at c.args.bytes.now _ _ c.in_ok-get.ensures.lookup.0.2 c.in_ok-b.ensures.cases.0
+    (sym (c.if-not-is_ascii_digit.ensures.value ∙ std_digit _)) c.digits_after.ensures c.from.ensures
+    (Some (c.in_ok-n.n, c.in_ok-n.taken)) c.in_ok-n.ensures.field c.in_ok-n.ensures.within

@@ -1,10 +1,6 @@
--- After k turns the first k bytes stand at the place. The measure is how many are left.
-use Rattle.std.proofs.Common.{length, ◌-◌}
+-- After k turns the first k bytes stand at the place.
 use Rattle.text.proofs.PutLaws.{Copying}
 use Rattle.text.proofs.put_bytes.Given as goal
 
-abbrev pub invariant-loop-k : goal.invariant-loop-k
-invariant-loop-k l = Copying l.text l.fn.bytes l.at l.bytes l.next l.k
-
-abbrev pub decreases-loop-k : goal.decreases-loop-k
-decreases-loop-k l = length l.text - l.k
+abbrev pub invariant-loop-b : goal.invariant-loop-b
+invariant-loop-b l = Copying l.text l.fn.bytes l.at l.bytes l.next l.b-index

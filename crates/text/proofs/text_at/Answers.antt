@@ -1,20 +1,20 @@
--- The first difference and the end of the bytes break the text; past its last byte it is found.
-use Rattle.text.proofs.FieldLoops.{text_done, text_ends, text_goes_on, text_breaks}
-use Rattle.text.specs.declared.Token.TheVariants.{Found, Missing}
-use Rattle.text.proofs.TokenLaws.{token_found}
+-- The text is found exactly where it stands at the front of the bytes from the place on.
+use Rattle.std.proofs.Common.{refl, sym, ◌∙◌}
+use Rattle.std.proofs.lemmas.Bool.{false≢true}
+use Rattle.std.proofs.lemmas.Bool.Decides.{Decides-eqb}
+use Rattle.std.proofs.lemmas.Slice.Eq.{starts_is}
+use Rattle.text.proofs.TokenLaws.{got_from, text_stands, text_differs}
 use Rattle.text.proofs.text_at.Goals as goal
 
-pub returns-then-bytes-next : goal.returns-then-bytes-next
-returns-then-bytes-next c = token_found _ _ _ Missing (text_ends c.loop-i.invariant c.loop-i-test.true c.if-bytes-next.true) tt
+pub returns-then-starts_with : goal.returns-then-starts_with
+returns-then-starts_with c =
+    let here = got_from c.args.bytes.now c.args.at c.get.result _ c.get.ensures.lookup refl c.unwrap_or-here.ensures in
+    let stands = starts_is Decides-eqb c.unwrap_or-here.result.now c.args.text.now c.starts_with.result c.starts_with.ensures.value in
+    text_stands c.args.bytes.now c.args.text.now c.args.at c.args.n _ (sym here ∙ stands.0 c.if-starts_with.true)
 
-pub returns-then-bytes-next-2 : goal.returns-then-bytes-next-2
-returns-then-bytes-next-2 c =
-    token_found _ _ _ Missing (text_breaks c.loop-i.invariant c.loop-i-test.true c.if-bytes-next.false c.if-bytes-next-2.true) tt
-
-pub loop-i-preserved : goal.loop-i-preserved
-loop-i-preserved c = text_goes_on c.loop-i.invariant c.loop-i-test.true c.if-bytes-next.false c.if-bytes-next-2.false
-
-pub returns : goal.returns
-returns c =
-    token_found _ _ _ (Found _ c.loop-i.next) (text_done c.loop-i.invariant c.loop-i-test.false)
-    (c.loop-i.invariant.reached.ahead, c.loop-i.invariant.reached.within)
+pub returns-else-starts_with : goal.returns-else-starts_with
+returns-else-starts_with c =
+    let here = got_from c.args.bytes.now c.args.at c.get.result _ c.get.ensures.lookup refl c.unwrap_or-here.ensures in
+    let stands = starts_is Decides-eqb c.unwrap_or-here.result.now c.args.text.now c.starts_with.result c.starts_with.ensures.value in
+    text_differs c.args.bytes.now c.args.text.now c.args.at c.args.n
+    (λ rest e. false≢true (sym c.if-starts_with.false ∙ stands.1 rest (here ∙ e)))

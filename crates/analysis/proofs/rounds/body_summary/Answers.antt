@@ -1,12 +1,15 @@
 -- What is marked besides nothing is the statement's own pairs.
-use Rattle.std.proofs.Common.{rules}
-use Rattle.labels.specs.Words.{Words}
+use Rattle.std.proofs.Common.{List, ℕ, rules, ap, ◌∙◌}
+use Rattle.numbers.specs.Sizes.{ours}
+use Rattle.recipe.specs.Tables.{lists_of}
+use Rattle.analysis.specs.Inner.{marked_into, row_words}
 use Rattle.analysis.proofs.RowCases.{body_row}
 use Rattle.analysis.proofs.rounds.body_summary.Goals as goal
 
 pub returns : goal.returns
 returns c =
-    let words : Words c.args.pairs.now = λ k. search rules in
-    body_row
-    (record { ready = c.requires; words_pairs = words; words_held = λ k. (c.type_inv.held k).fits })
-    c.clear.ensures c.row_summary.ensures
+    let u = c.args.turn.now in
+    let t = lists_of u.recipe.now.table in
+    body_row ours t u.recipe.now.admitted u.whole c.args.root.0 c.requires c.args.new.now.pairs (search rules)
+    (c.row_summary-new.ensures
+    ∙ ap (λ (m : List ℕ). marked_into ours.words m (row_words ours.words t u.held.now c.args.root.0)) c.clear.ensures)

@@ -1,11 +1,11 @@
--- The blocks before this one are those of the bodies, and the rest is as it was.
-use Rattle.std.proofs.Common.{length, ◌-◌}
+-- The summaries before this one are those of the bodies, and the rest is as it was.
 use Rattle.numbers.specs.Sizes.{ours}
-use Rattle.analysis.proofs.TurnLaws.{Rounding}
+use Rattle.recipe.specs.Statements.{program_of}
+use Rattle.recipe.specs.Tables.{lists_of}
+use Rattle.analysis.specs.Inner.{body_words}
+use Rattle.analysis.proofs.RoundLaws.{Rounding}
 use Rattle.analysis.proofs.rounds.round.Given as goal
 
 abbrev pub invariant-loop-f : goal.invariant-loop-f
-invariant-loop-f l = Rounding ours l.fn.new l.new l.kinds l.xs l.ys l.roots l.held l.f
-
-abbrev pub decreases-loop-f : goal.decreases-loop-f
-decreases-loop-f l = length l.roots - l.f
+invariant-loop-f l =
+    Rounding (body_words ours.words (program_of (lists_of l.turn.recipe.now.table)) l.turn.held.now) l.fn.new l.new l.f

@@ -1,75 +1,118 @@
 -- At each kind the children's summaries give the row's, and a child's number is below the row's.
-use Rattle.std.proofs.Common.{ℕ, List, refl, get_or, rules, arith}
+use Rattle.std.proofs.Common.{ℕ, [], ◌∷◌, refl, ap, arith}
 use Rattle.numbers.specs.Sizes.{ours}
-use Rattle.labels.specs.Words.{Words}
-use Rattle.recipe.proofs.AloneLaws.{first_smaller, second_smaller, no_other, call_there, label_fits, xs_there, ys_there}
-use Rattle.analysis.specs.Inner.{Ready}
-use Rattle.analysis.proofs.RowCases.{Standing, Around, one_child, child_smaller, ready_for, skip_row, step_row_lem, seq_row_lem, call_row_lem, around_row}
+use Rattle.recipe.proofs.Admitted.{kind_there, step_label, seq_children, loop_child, async_child, finish_child, call_target}
+use Rattle.analysis.specs.Summaries.{WordSummary}
+use Rattle.analysis.proofs.Shape.{by_parts}
+use Rattle.analysis.proofs.RowCases.{on, right_sizes, standing, skip_row, step_row_lem, seq_row_lem, loop_row_lem, async_row_lem, finish_row_lem, call_row_lem}
 use Rattle.analysis.proofs.rows.+row_summary.Goals as goal
 
-pub bounds-xs-i : goal.bounds-xs-i
-bounds-xs-i t c = xs_there c.requires.table _ c.requires.there
-
-pub bounds-ys-i : goal.bounds-ys-i
-bounds-ys-i t c = ys_there c.requires.table _ c.requires.there
+pub bounds-table-i : goal.bounds-table-i
+bounds-table-i t c =
+    let u = c.args.turn.now in
+    omega (arith, (right_sizes u).xs_match, c.requires)
 
 pub overflow_cast-x : goal.overflow_cast-x
-overflow_cast-x t c = record { fits = omega (arith, label_fits c.requires.table _ c.requires.there c.in-1.is) }
+overflow_cast-x t c =
+    let u = c.args.turn.now in
+    let l = step_label ours (on u) u.recipe.now.admitted _ c.requires
+    (rw (c.try_from.ensures, c.in-Ok-Step.is, c.in-Ok-Step.field-0-is)) in
+    record { fits = omega arith }
 
 pub row_summary-first-requires : goal.row_summary-first-requires
 row_summary-first-requires t c =
-    let l = first_smaller c.requires.table _ c.requires.there c.in-2.is in
-    (omega (arith, l, c.decreases), ready_for c.requires _ (omega (arith, l, c.requires.there)) refl)
+    let u = c.args.turn.now in
+    let l = seq_children ours (on u) u.recipe.now.admitted _ c.requires
+    (rw (c.try_from.ensures, c.in-Ok-Seq.is, c.in-Ok-Seq.field-0-is)) in
+    (omega (arith, l.0, c.decreases), omega (arith, l.0, c.requires))
+
+pub bounds-table-i-in-Ok-Seq : goal.bounds-table-i-in-Ok-Seq
+bounds-table-i-in-Ok-Seq t c =
+    let u = c.args.turn.now in
+    omega (arith, (right_sizes u).ys_match, c.requires)
 
 pub row_summary-second-requires : goal.row_summary-second-requires
 row_summary-second-requires t c =
-    let l = second_smaller c.requires.table _ c.requires.there c.in-2.is in
-    (omega (arith, l, c.decreases), ready_for c.requires _ (omega (arith, l, c.requires.there)) c.row_summary-first.auto.pairs)
-
-pub called-requires-clause-there : goal.called-requires-clause-there
-called-requires-clause-there t c = call_there c.requires.table _ c.requires.there c.in-6.is
+    let u = c.args.turn.now in
+    let l = seq_children ours (on u) u.recipe.now.admitted _ c.requires
+    (rw (c.try_from.ensures, c.in-Ok-Seq.is, c.in-Ok-Seq.field-0-is)) in
+    (omega (arith, l.1, c.decreases), omega (arith, l.1, c.requires))
 
 pub row_summary-body-requires : goal.row_summary-body-requires
 row_summary-body-requires t c =
-    let k : Around (get_or c.args.kinds.now c.args.row.0 0)
-    = one_child _ (λ e. omega arith) (λ e. omega arith) (λ e. omega arith) (omega arith) in
-    let l = child_smaller c.requires.table _ c.requires.there k in
-    (omega (arith, l, c.decreases), ready_for c.requires _ (omega (arith, l, c.requires.there)) refl)
+    let u = c.args.turn.now in
+    let l = loop_child ours (on u) u.recipe.now.admitted _ c.requires
+    (rw (c.try_from.ensures, c.in-Ok-Loop.is, c.in-Ok-Loop.field-0-is)) in
+    (omega (arith, l, c.decreases), omega (arith, l, c.requires))
 
-standing :
-    {pairs kinds xs ys held : List ℕ} {row : ℕ} → Ready ours pairs kinds xs ys held row → Words pairs → Words held
-    → Standing ours pairs kinds xs ys held row
-standing r p h = record { ready = r; words_pairs = p; words_held = h }
+pub row_summary-requires : goal.row_summary-requires
+row_summary-requires t c =
+    let u = c.args.turn.now in
+    let l = async_child ours (on u) u.recipe.now.admitted _ c.requires
+    (rw (c.try_from.ensures, c.in-Ok-Async.is, c.in-Ok-Async.field-0-is)) in
+    (omega (arith, l, c.decreases), omega (arith, l, c.requires))
 
-pub returns-in-0 : goal.returns-in-0
-returns-in-0 t c =
-    skip_row (standing c.requires (λ k. (c.type_inv.pairs k).fits) (λ k. (c.type_inv.held k).fits)) c.in-0.is refl c.empty.ensures
+pub row_summary-requires-in-Ok-Finish : goal.row_summary-requires-in-Ok-Finish
+row_summary-requires-in-Ok-Finish t c =
+    let u = c.args.turn.now in
+    let l = finish_child ours (on u) u.recipe.now.admitted _ c.requires
+    (rw (c.try_from.ensures, c.in-Ok-Finish.is, c.in-Ok-Finish.field-0-is)) in
+    (omega (arith, l, c.decreases), omega (arith, l, c.requires))
 
-pub returns-in-1 : goal.returns-in-1
-returns-in-1 t c =
-    step_row_lem (standing c.requires (λ k. (c.type_inv.pairs k).fits) (λ k. (c.type_inv.held k).fits)) c.in-1.is refl
-    c.step.ensures.stays c.step.ensures.runs
+pub called-requires : goal.called-requires
+called-requires t c =
+    let u = c.args.turn.now in
+    let l = call_target ours (on u) u.recipe.now.admitted _ c.requires
+    (rw (c.try_from.ensures, c.in-Ok-Call.is, c.in-Ok-Call.field-0-is)) in
+    omega (arith, l, (right_sizes u).few_procs_lem)
 
-pub returns-in-2 : goal.returns-in-2
-returns-in-2 t c =
-    let words : Words c.args.pairs.now = λ k. search rules in
-    seq_row_lem (standing c.requires words (λ k. (c.type_inv.held k).fits)) c.row_summary-first.ensures c.in-2.is
-    c.row_summary-second.ensures c.sequence.ensures
+pub returns-in-Ok-Skip : goal.returns-in-Ok-Skip
+returns-in-Ok-Skip t c =
+    let u = c.args.turn.now in
+    skip_row (standing u c.requires c.told-pairs c.fits-pairs)
+    (rw (c.try_from.ensures, c.in-Ok-Skip.is, c.in-Ok-Skip.field-0-is)) refl
+    (ap (λ (x : WordSummary). x.O) c.empty.ensures) (ap (λ (x : WordSummary). x.L) c.empty.ensures)
 
-pub returns-in-6 : goal.returns-in-6
-returns-in-6 t c =
-    let words : Words c.args.pairs.now = λ k. search rules in
-    call_row_lem (standing c.requires words (λ k. (c.type_inv.held k).fits)) c.in-6.is c.called.ensures
+pub returns-in-Ok-Step : goal.returns-in-Ok-Step
+returns-in-Ok-Step t c =
+    let u = c.args.turn.now in
+    step_row_lem (standing u c.requires c.told-pairs c.fits-pairs)
+    (rw (c.try_from.ensures, c.in-Ok-Step.is, c.in-Ok-Step.field-0-is)) refl c.step.ensures.stays c.step.ensures.runs
 
-pub returns-in-3-to-5 : goal.returns-in-3-to-5
-returns-in-3-to-5 t c =
-    let words : Words c.args.pairs.now = λ k. search rules in
-    let k : Around (get_or c.args.kinds.now c.args.row.0 0)
-    = one_child _ (λ e. omega arith) (λ e. omega arith) (λ e. omega arith) (omega arith) in
-    around_row (standing c.requires words (λ k. (c.type_inv.held k).fits)) c.row_summary-body.ensures k c.around.ensures.loops
-    c.around.ensures.spawns c.around.ensures.waits
+pub returns-in-Ok-Seq : goal.returns-in-Ok-Seq
+returns-in-Ok-Seq t c =
+    let u = c.args.turn.now in
+    seq_row_lem (standing u c.requires c.told-pairs c.fits-pairs) c.row_summary-first.ensures
+    (rw (c.try_from.ensures, c.in-Ok-Seq.is, c.in-Ok-Seq.field-0-is)) c.row_summary-second.ensures c.sequence.ensures
 
-pub returns-in-7-to-255 : goal.returns-in-7-to-255
-returns-in-7-to-255 t c =
-    no_other c.requires.table _ c.requires.there (λ e. omega arith) (λ e. omega arith) (λ e. omega arith) (λ e. omega arith)
-    (λ e. omega arith) (λ e. omega arith) (λ e. omega arith)
+pub returns-in-Ok-Loop : goal.returns-in-Ok-Loop
+returns-in-Ok-Loop t c =
+    let u = c.args.turn.now in
+    loop_row_lem (standing u c.requires c.told-pairs c.fits-pairs) c.row_summary-body.ensures
+    (rw (c.try_from.ensures, c.in-Ok-Loop.is, c.in-Ok-Loop.field-0-is)) c.repetition.ensures
+
+pub returns-in-Ok-Async : goal.returns-in-Ok-Async
+returns-in-Ok-Async t c =
+    let u = c.args.turn.now in
+    async_row_lem (standing u c.requires c.told-pairs c.fits-pairs) c.row_summary.ensures
+    (rw (c.try_from.ensures, c.in-Ok-Async.is, c.in-Ok-Async.field-0-is))
+    (by_parts refl (ap (λ (n : ℕ). n ∷ []) c.spawned.ensures.stays) (ap (λ (n : ℕ). n ∷ []) c.spawned.ensures.runs))
+
+pub returns-in-Ok-Finish : goal.returns-in-Ok-Finish
+returns-in-Ok-Finish t c =
+    let u = c.args.turn.now in
+    finish_row_lem (standing u c.requires c.told-pairs c.fits-pairs) c.row_summary-in-Ok-Finish.ensures
+    (rw (c.try_from.ensures, c.in-Ok-Finish.is, c.in-Ok-Finish.field-0-is))
+    (by_parts refl c.waited.ensures.stays (ap (λ (n : ℕ). n ∷ []) c.waited.ensures.runs))
+
+pub returns-in-Ok-Call : goal.returns-in-Ok-Call
+returns-in-Ok-Call t c =
+    let u = c.args.turn.now in
+    call_row_lem (standing u c.requires c.told-pairs c.fits-pairs)
+    (rw (c.try_from.ensures, c.in-Ok-Call.is, c.in-Ok-Call.field-0-is)) c.called.ensures
+
+pub returns-in-Err : goal.returns-in-Err
+returns-in-Err t c =
+    let u = c.args.turn.now in
+    absurd
+    (kind_there ours (on u) u.recipe.now.admitted _ c.requires (rw (c.try_from.ensures, c.in-Err.is)))

@@ -1,7 +1,9 @@
--- A block of zeros is the empty summary's, and the state is such a block for each procedure.
+-- Every entry is the empty summary.
+use Rattle.std.proofs.Common.{ap, ◌∙◌}
+use Rattle.std.proofs.lemmas.List.{get_or-replicate}
 use Rattle.numbers.specs.Sizes.{ours}
-use Rattle.analysis.proofs.States.{empty_blocks}
+use Rattle.analysis.specs.Inner.{words_in, no_summary}
 use Rattle.analysis.proofs.state.empty.Goals as goal
 
 pub returns : goal.returns
-returns c = empty_blocks ours.words ours.procs
+returns c = λ f h. ap words_in (get_or-replicate ours.procs f _ no_summary h) ∙ c.empty.ensures

@@ -7,11 +7,10 @@ use Rattle.recipe.proofs.usage.count_children.Goals as goal
 
 pub loop-i-init : goal.loop-i-init
 unfolding sum_below
-loop-i-init c = (omega arith, c.requires.none)
+loop-i-init c = c.requires.none
 
 pub count_row-requires : goal.count_row-requires
-count_row-requires c i u = c.requires.below c.loop-i.i i c.loop-i-test.true u
+count_row-requires c i u = c.requires.below c.loop-i.i i (omega arith) u
 
 pub loop-i-preserved : goal.loop-i-preserved
-loop-i-preserved c =
-    (omega arith, counts_same c.count_row.new.counts _ _ (λ i. sym (sum_next _ _)) (c.count_row.ensures _ c.loop-i.invariant.1))
+loop-i-preserved c = counts_same c.count_row.new.counts _ _ (λ i. sym (sum_next _ _)) (c.count_row.ensures _ c.loop-i.invariant)

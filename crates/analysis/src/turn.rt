@@ -1,0 +1,14 @@
+// What a round reads: the recipe, and the summaries of the round before.
+ghost use Rattle.numbers.specs.Sizes.{ours};
+ghost use Rattle.analysis.specs.Inner.{Whole};
+
+use crate::state::State;
+use recipe::Recipe;
+
+// An admitted recipe, and a whole summary for each procedure.
+#[derive(Clone, Copy)]
+pub(crate) struct Turn<'a> {
+    pub(crate) recipe: &'a Recipe<'a>,
+    pub(crate) held: &'a State,
+    ghost whole: { Whole ours held.now },
+}
