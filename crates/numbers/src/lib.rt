@@ -1,7 +1,7 @@
 // The lowest room: row, procedure and line numbers kept apart, the ceilings by size, the numbered refusals, and definitions of general use.
 #![tactic(auto)]
 
-ghost use Rattle.std.specs.Prelude.{◌≡◌, position};
+ghost use Rattle.std.specs.Prelude.{◌≡◌, min, position};
 ghost use Rattle.std.specs.Ordering.{partial_gt};
 ghost use Rattle.numbers.specs.Refusals.{refusal_number, refusal_place};
 
@@ -112,6 +112,13 @@ impl Refusal {
             Refusal::ShortBytes => 0,
         }
     }
+}
+
+// The smaller of two numbers.
+pub fn least(a: usize, b: usize) -> usize
+    ensures { result ≡ min a b }
+{
+    a.min(b)
 }
 
 // The lowest place of a number above this one, where there is one.

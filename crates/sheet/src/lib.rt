@@ -62,7 +62,7 @@ pub fn read_sheet(
         × (roots.new ≡ laid (roots_of w) roots.old)))) }
 {
     let places = Room {
-        rows: kinds.len().min(xs.len().min(ys.len())),
+        rows: numbers::least(kinds.len(), numbers::least(xs.len(), ys.len())),
         roots: roots.len(),
     };
     let held = hold_sheet(bytes, places)?;

@@ -2,7 +2,7 @@
 -- Assumes nothing.
 use mathlib.Core.Path.{◌≡◌, sym, ap, ◌∙◌}
 use mathlib.Core.List.{List}
-use Prim.Native.Nat.{ℕ, ◌≤◌}
+use Prim.Native.Nat.{◌≤◌}
 use native.Mathlib.Omega.{arith}
 use Rattle.numbers.specs.Sizes.{row_ceiling}
 use Rattle.std.specs.Prelude.{Result, Ok, Err}
@@ -10,10 +10,7 @@ use Rattle.numbers.specs.declared.Refusal.{Refusal}
 use Rattle.recipe.specs.Tables.{lists_of}
 use Rattle.recipe.specs.declared.Row.{Row}
 use Rattle.table.specs.Columns.{Copied}
-use Rattle.table.specs.Inner.{overlaid, held_of}
-use Rattle.table.specs.Reading.{Reading, refused, reply_of}
 use Rattle.table.specs.declared.Held.{Held}
-use Rattle.table.specs.declared.Room.{Room}
 use Rattle.table.specs.declared.columns.Columns.{Columns}
 use Rattle.table.proofs.SameColumns.{same_columns}
 use Rattle.table.proofs.Room.within_ceilings.Reads.{Post as within-ceilings-post}
@@ -47,19 +44,12 @@ store_rows_determined κs a r r' s s' p q = (p.0 ∙ sym q.0, p.1 ∙ sym q.1, p
 pub store_determined : (T b c d e κs a r r' s s' : _) → store-post T b c d e κs a r s → store-post T b c d e κs a r' s' → s.1.1.0.now ≡ s'.1.1.0.now
 store_determined T b c d e κs a r r' s s' p q = p ∙ sym q
 
--- Records laid over records, and roots over roots.
-pub copy_out_determined : (n : ℕ) (all old new new' : List Row) → new ≡ overlaid n all old → new' ≡ overlaid n all old → new ≡ new'
-copy_out_determined n all old new new' p q = p ∙ sym q
+-- So records are laid over records, and roots over roots, in one way.
+pub copy_out_determined : (T b c d e κs a r r' s s' : _) → store-post T b c d e κs a r s → store-post T b c d e κs a r' s' → s.1.1.0.now ≡ s'.1.1.0.now
+copy_out_determined = store_determined
 
-pub store_roots_determined : (n : ℕ) (read old new new' : List ℕ) → new ≡ overlaid n read old → new' ≡ overlaid n read old → new ≡ new'
-store_roots_determined n read old new new' p q = p ∙ sym q
-
--- What is held of a refusal, and what a reply reports.
-pub refusal_determined : (why : Refusal) (r r' : Result Held Refusal) → r ≡ held_of (refused why) → r' ≡ held_of (refused why) → r ≡ r'
-refusal_determined why r r' p q = p ∙ sym q
-
-pub reported_determined : (w : Reading) (r r' : Result Room Refusal) → r ≡ reply_of w → r' ≡ reply_of w → r ≡ r'
-reported_determined w r r' p q = p ∙ sym q
+pub store_roots_determined : (T b c d e κs a r r' s s' : _) → store-post T b c d e κs a r s → store-post T b c d e κs a r' s' → s.1.1.0.now ≡ s'.1.1.0.now
+store_roots_determined = store_determined
 
 -- The result of copying these rows is one.
 copied_once : (rows : List Row) (r r' : Result Columns Refusal) → Copied rows r → Copied rows r' → r ≡ r'

@@ -3,16 +3,16 @@ ghost use Rattle.std.specs.Prelude.{◌≡◌, ◌≤◌};
 ghost use Rattle.numbers.specs.Sizes.{row_ceiling};
 
 use crate::store_rows;
-use numbers::{Refusal, RowNumber};
+use numbers::{Refusal, RowNumber, least};
 use recipe::{Row, Table};
 
 // The columns of a table's rows, each in an array of its own, as many entries as there are rows. Three arrays, since a table lends three slices.
 #[derive(Clone, Copy)]
 pub struct Columns {
     rows: usize,
-    kinds: [u8; RowNumber::CEILING],
-    xs: [u16; RowNumber::CEILING],
-    ys: [u16; RowNumber::CEILING],
+    pub kinds: [u8; RowNumber::CEILING],
+    pub xs: [u16; RowNumber::CEILING],
+    pub ys: [u16; RowNumber::CEILING],
     ghost fits: { rows ≤ row_ceiling },
 }
 
@@ -34,7 +34,7 @@ impl Columns {
     pub fn first_of(rows: &[Row]) -> Columns
         ensures { result ≡ columns_of rows.now }
     {
-        let n = RowNumber::CEILING.min(rows.len());
+        let n = least(RowNumber::CEILING, rows.len());
         let mut kinds = [0; RowNumber::CEILING];
         let mut xs = [0; RowNumber::CEILING];
         let mut ys = [0; RowNumber::CEILING];

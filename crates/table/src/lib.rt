@@ -10,7 +10,7 @@ ghost use Rattle.table.specs.Reading.{row_places};
 ghost use Rattle.table.specs.Inner.{overlaid, empty};
 
 pub use columns::Columns;
-use numbers::{ProcNumber, Refusal, RowNumber};
+use numbers::{ProcNumber, Refusal, RowNumber, least};
 use recipe::Row;
 
 // How many rows and how many roots: room for them, or so many that are kept.
@@ -26,8 +26,8 @@ impl Room {
         ensures { (result.rows ≡ min row_ceiling self.rows) × (result.roots ≡ min ours.procs self.roots) }
     {
         Room {
-            rows: RowNumber::CEILING.min(self.rows),
-            roots: ProcNumber::CEILING.min(self.roots),
+            rows: least(RowNumber::CEILING, self.rows),
+            roots: least(ProcNumber::CEILING, self.roots),
         }
     }
 }
@@ -61,7 +61,7 @@ impl Held {
 pub fn store<T: Copy>(n: usize, kept: &[T], lent: &mut [T])
     ensures { lent.new ≡ overlaid n kept.now lent.old }
 {
-    let m = n.min(kept.len()).min(lent.len());
+    let m = least(least(n, kept.len()), lent.len());
     lent[..m].copy_from_slice(&kept[..m]);
 }
 
@@ -73,8 +73,8 @@ pub fn store_rows(n: usize, rows: &[Row], kinds: &mut [u8], xs: &mut [u16], ys: 
         × (xs.new ≡ overlaid m (xs_of rows.now) xs.old)
         × (ys.new ≡ overlaid m (ys_of rows.now) ys.old) }
 {
-    let places = kinds.len().min(xs.len().min(ys.len()));
-    let m = n.min(places).min(rows.len());
+    let places = least(kinds.len(), least(xs.len(), ys.len()));
+    let m = least(least(n, places), rows.len());
     for (i, row) in rows[..m].iter().enumerate() {
         kinds[i] = row.kind;
         xs[i] = row.x;

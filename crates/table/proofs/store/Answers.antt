@@ -6,5 +6,5 @@ use Rattle.table.proofs.store.Goals as goal
 pub returns : goal.returns
 returns g c =
     let a = c.args in
-    let m : c.min-m.result ≡ min (min a.n (length a.kept.now)) (length a.lent.now) = omega arith in
+    let m : c.least-m.result ≡ min (min a.n (length a.kept.now)) (length a.lent.now) = omega arith in
     rw (c.copy_from_slice.ensures.after, m) (sym (overlaid_is a.n a.kept.now a.lent.now))

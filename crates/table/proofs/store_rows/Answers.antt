@@ -15,8 +15,8 @@ pub loop-i-preserved : goal.loop-i-preserved
 loop-i-preserved c =
     let a = c.args in
     let next = λ (f : Row → ℕ) (old held : List ℕ) (e : held ≡ overlaid c.loop-i.i (map f a.rows.now) old) (q : c.loop-i.i < length old).
-    overlaid_next f blank c.loop-i.i c.min-m.result a.rows.now old e c.loop-i-test.true q in
-    let in-m : c.loop-i.i < c.min-m.result = omega (arith, length-take c.min-m.result a.rows.now) in (
+    overlaid_next f blank c.loop-i.i c.least-m.result a.rows.now old e c.loop-i-test.true q in
+    let in-m : c.loop-i.i < c.least-m.result = omega (arith, length-take c.least-m.result a.rows.now) in (
       next (λ (row : Row). row.kind) a.kinds.now _ c.loop-i.invariant.0 (omega arith),
       next (λ (row : Row). row.x) a.xs.now _ c.loop-i.invariant.1 (omega arith),
       next (λ (row : Row). row.y) a.ys.now _ c.loop-i.invariant.2 (omega arith),
@@ -31,7 +31,7 @@ returns c =
     let a = c.args in
     let rows = a.rows.now in
     let places = row_places a.kinds.now a.xs.now a.ys.now in
-    let all : c.loop-i.i ≡ min (min a.n places) (length rows) = omega (arith, length-take c.min-m.result rows) in
+    let all : c.loop-i.i ≡ min (min a.n places) (length rows) = omega (arith, length-take c.least-m.result rows) in
     let ended = λ (f : Row → ℕ) (old held : List ℕ) (e : held ≡ overlaid c.loop-i.i (map f rows) old) (fits : places ≤ length old).
     e
     ∙ overlaid_as_many c.loop-i.i (min a.n places) (map f rows) old

@@ -23,8 +23,8 @@ returns c =
     let rows = c.args.rows.now in
     let stored = c.store_rows.ensures in
     let places : row_places (zeros row_ceiling) (zeros row_ceiling) (zeros row_ceiling) ≡ row_ceiling = omega (arith, length-replicate {A = ℕ} row_ceiling 0) in
-    let column_of = λ (f : Row → ℕ). in_column (map f rows) (length-map rows f) c.min-n.ensures places in
-    same_columns _ _ c.min-n.ensures
+    let column_of = λ (f : Row → ℕ). in_column (map f rows) (length-map rows f) c.least-n.ensures places in
+    same_columns _ _ c.least-n.ensures
     (stored.0 ∙ column_of (λ (row : Row). row.kind))
     (stored.1 ∙ column_of (λ (row : Row). row.x))
     (stored.2 ∙ column_of (λ (row : Row). row.y))
