@@ -3,4 +3,5 @@ pub mod CountLaws
 pub mod OneWord
 pub mod Unique
 mod BothSizes
+mod Lowest
 pub mod Joining

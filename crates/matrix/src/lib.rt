@@ -32,19 +32,21 @@ fn join_each(matrix: &mut [u64], set: u64, partners: u64)
         if i < matrix.len() {
             matrix[i] |= partners;
         }
-        rest &= !(1u64 << label);
+        rest &= rest - 1;
     }
 }
 
 // Marks every (x,y) and every (y,x) with x in a and y in b. Where one of them is empty, which is often so, nothing is to be done.
+// In three sets, so that the word of each label is visited once.
 pub fn cross(matrix: &mut [u64], a: u64, b: u64)
     ensures { matrix.new ≡ crossed ours.words (a ∷ []) (b ∷ []) matrix.old }
 {
     if a == 0 || b == 0 {
         return;
     }
-    join_each(matrix, a, b);
-    join_each(matrix, b, a);
+    join_each(matrix, a & b, a | b);
+    join_each(matrix, a & !b, b);
+    join_each(matrix, b & !a, a);
 }
 
 // Marks every pair that is marked in the other matrix. Its words are read by number: of words changed through a zip a proof knows none.
