@@ -12,7 +12,6 @@ use Rattle.recipe.specs.Rules.{judged_with, IsAdmitted}
 use Rattle.recipe.specs.Statements.{program_of}
 use Rattle.recipe.specs.Tables.{Table}
 use Rattle.recipe.proofs.WithMatrix.{admitted_with}
-use Rattle.matrix.proofs.MatrixLaws.{copied_laid}
 use Rattle.analysis.specs.Replies.{rounds, main_pairs, analysed_as, matrix_as, analysed, matrix_after}
 
 module _ (z : Size) (t : Table) (m : List ℕ) where
@@ -36,6 +35,3 @@ module _ (z : Size) (t : Table) (m : List ℕ) where
 
 -- What holds past the judge's yes.
 pub ruleset as_judged = (admitted_at, whole_at)
-
--- The same, and what a copy of the pairs into a whole matrix is.
-pub ruleset in_order = (as_judged, copied_laid)

@@ -17,14 +17,12 @@ use recipe::{Recipe, Table};
 
 // Marks in the lent matrix every two labels that may run at the same time in main, and hands back the rounds until one repeats. A
 // table that is not admitted is refused, and then the matrix is left as it was.
-#[tactic(auto, unfolding(crate::specs::Replies::analysed, crate::specs::Replies::matrix_after), using(crate::proofs::ReplyLaws::in_order))]
+#[tactic(auto, unfolding(crate::specs::Replies::analysed, crate::specs::Replies::matrix_after), using(crate::proofs::ReplyLaws::as_judged))]
 pub fn analyse(table: &Table<'_>, matrix: &mut [u64]) -> Result<u32, Refusal>
     ensures reply { result ≡ analysed ours (lists_of table.now) (length matrix.old) }
     ensures pairs { matrix.new ≡ matrix_after ours (lists_of table.now) matrix.old }
 {
     table.judge_with(matrix.len())?;
     let recipe = Recipe { table: *table };
-    let found = rounds::run(&recipe);
-    matrix::copy(matrix, &found.pairs);
-    Ok(found.rounds)
+    Ok(rounds::run(&recipe, matrix))
 }

@@ -1,6 +1,7 @@
 // The rounds: every body is worked out from the summaries of the round before, until a round repeats.
-ghost use Rattle.std.specs.Prelude.{◌≡◌, ℕ, ◌<◌, ◌≤◌};
-ghost use Rattle.numbers.specs.Sizes.{ours};
+ghost use Rattle.std.specs.Prelude.{◌≡◌, ℕ, ◌<◌, ◌≤◌, length};
+ghost use Rattle.numbers.specs.General.{laid};
+ghost use Rattle.numbers.specs.Sizes.{ours, matrix_words};
 ghost use Rattle.recipe.specs.Tables.{lists_of, rows, procs};
 ghost use Rattle.recipe.specs.Statements.{program_of};
 ghost use Rattle.analysis.specs.Replies.{rounds, main_pairs};
@@ -9,7 +10,7 @@ ghost use Rattle.analysis.specs.Inner.{words_in, held_for, row_words, body_words
 use crate::rows::row_summary;
 use crate::state;
 use crate::state::State;
-use crate::summary::{Pairs, Summary};
+use crate::summary::Summary;
 use crate::turn::Turn;
 use numbers::RowNumber;
 use recipe::Recipe;
@@ -37,17 +38,13 @@ fn round(new: &mut State, turn: &Turn<'_>)
     }
 }
 
-// What the rounds find: how many there are until one repeats, and main's pairs.
-#[derive(Clone, Copy)]
-pub(crate) struct Found {
-    pub(crate) rounds: u32,
-    pub(crate) pairs: Pairs,
-}
-
-// Rounds from empty summaries until one repeats.
-pub(crate) fn run(recipe: &Recipe<'_>) -> Found
-    ensures count { result.rounds ≡ rounds ours.words (program_of (lists_of recipe.now.table)) }
-    ensures pairs { result.pairs ≡ main_pairs ours.words (program_of (lists_of recipe.now.table)) }
+// Rounds from empty summaries until one repeats. Main's pairs are then put into the lent matrix, and the count of rounds is handed back.
+// Never inlined: in its caller's frame the two states would take stack while the judge runs.
+#[inline(never)]
+pub(crate) fn run(recipe: &Recipe<'_>, matrix: &mut [u64]) -> u32
+    requires { matrix_words ours.words ≤ length matrix.old }
+    ensures count { result ≡ rounds ours.words (program_of (lists_of recipe.now.table)) }
+    ensures pairs { matrix.new ≡ laid (main_pairs ours.words (program_of (lists_of recipe.now.table))) matrix.old }
 {
     let n = recipe.table.roots.len();
     let mut held = state::empty();
@@ -66,8 +63,6 @@ pub(crate) fn run(recipe: &Recipe<'_>) -> Found
         held = new;
         rounds += 1;
     }
-    Found {
-        rounds,
-        pairs: held[0].pairs,
-    }
+    matrix::copy(matrix, &held[0].pairs);
+    rounds
 }

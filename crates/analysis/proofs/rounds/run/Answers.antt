@@ -1,6 +1,9 @@
--- At each turn the state holds round k and no earlier round repeated, so the first that does is the reported one, and its first summary is main's.
+-- At each turn the state holds round k and no earlier round repeated, so the first that does is the reported one, and its first summary, whose pairs go
+-- into the matrix, is main's.
 use Rattle.std.proofs.Common.{rules, arith}
 use Rattle.std.proofs.lemmas.Slice.Eq.{slice_eq-Decides}
+use Rattle.numbers.specs.Sizes.{ours}
+use Rattle.matrix.proofs.MatrixLaws.{copied_laid}
 use Rattle.analysis.proofs.GoingLaws.{parts_decide, rounds_begin, whole, not_yet, rounds_go_on, rounds_end, main_first}
 use Rattle.analysis.proofs.rounds.run.Goals as goal
 
@@ -32,4 +35,7 @@ returns c =
     let g = c.loop-new.invariant in
     let e = rounds_end g _ c.round.ensures.bodies c.round.ensures.others _ (search rules)
     (slice_eq-Decides parts_decide _ _ _ c.eq.ensures) c.if-eq.true in
-    record { count = e; pairs = main_first g e }
+    let main = main_first g e in
+    let size = ((whole g).of 0 (omega arith)).M.size in
+    let put = copied_laid ours.words c.args.matrix.now _ c.requires size in
+    record { count = e; pairs = cc }
