@@ -4,6 +4,7 @@ pub mod Counters
 pub mod Judging
 pub mod Admitted
 pub mod Readings
+pub mod Roots
 pub mod Bodies
 pub mod Unique
 pub mod EachRow

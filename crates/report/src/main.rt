@@ -128,12 +128,15 @@ fn answer_argument(rt: &HostRuntime, argument: usize) -> bool {
     answer_file(rt, &bytes[..n])
 }
 
-// Answers the sheets in the files that the arguments name, in their order; argument 0 is the program's own name.
+// Answers the sheets in the files that the arguments name, in their order; argument 0 is the program's own name. It is a `while`, whose
+// measure refuses a program that stays at one name; a `for` has none.
 fn answer_arguments(rt: &HostRuntime, count: usize) {
-    for argument in 1..count {
+    let mut argument = 1;
+    while argument < count {
         if !answer_argument(rt, argument) {
             return;
         }
+        argument += 1;
     }
 }
 
