@@ -1,3 +1,4 @@
+pub mod LineLaws
 pub mod SheetLaws
 pub mod Judging
 pub mod Records

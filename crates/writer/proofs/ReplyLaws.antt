@@ -68,3 +68,11 @@ module _ (z : Size) where
   too_many lent roots b h =
       let t = table_of_rows lent roots in
       refused_writing z t b Sizes (sizes_refused z t (wrong t (omega (arith, length-map lent (λ (r : Row). r.kind)))))
+
+  -- Reply and bytes apart.
+  pub too_many_reply :
+      (lent : List Row) (roots b : List ℕ) → row_ceiling < length lent → Err Sizes ≡ written z (table_of_rows lent roots) (length b)
+  too_many_reply lent roots b h = (too_many lent roots b h).0
+
+  pub too_many_bytes : (lent : List Row) (roots b : List ℕ) → row_ceiling < length lent → b ≡ bytes_written z (table_of_rows lent roots) b
+  too_many_bytes lent roots b h = (too_many lent roots b h).1

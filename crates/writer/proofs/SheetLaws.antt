@@ -2,8 +2,8 @@
 -- Assumes nothing.
 use mathlib.Core.Path.{◌≡◌, refl, sym, ap, ◌∙◌}
 use mathlib.Core.List.{List, [], ◌∷◌, ◌++◌, flat_map}
-use Prim.Native.Nat.{ℕ, zero, suc}
-use lib.ListN.{length, get_or}
+use Prim.Native.Nat.{ℕ, zero, suc, ◌+◌}
+use lib.ListN.{length, get_or, length-append}
 use Rattle.std.proofs.lemmas.List.Concat.{length-flat_map}
 use Rattle.std.specs.List.{sum_by}
 use Rattle.numbers.specs.General.{in_turn}
@@ -36,3 +36,6 @@ length_lines f l = length-flat_map f l
 pub sheet_lines : (t : Table) → sheet_of t ≡ row_lines t ++ flat_map spelled_root t.roots
 unfolding sheet_of spell
 sheet_lines t = refl
+
+pub length_sheet : (t : Table) → length (sheet_of t) ≡ length (row_lines t) + length (flat_map spelled_root t.roots)
+length_sheet t = ap length (sheet_lines t) ∙ length-append (row_lines t) (flat_map spelled_root t.roots)

@@ -38,6 +38,7 @@ pub fn write_sheet(table: &Table<'_>, bytes: &mut [u8]) -> Result<usize, Refusal
 
 // Writes the sheet of the recipe whose rows are these records to the front of the lent bytes and hands back its length. What is refused,
 // a sheet that does not fit among it, leaves the bytes as they were.
+#[tactic(auto, using(crate::proofs::ReplyLaws::too_many_reply, crate::proofs::ReplyLaws::too_many_bytes))]
 pub fn write_rows(rows: &[Row], roots: &[u16], bytes: &mut [u8]) -> Result<usize, Refusal>
     ensures { let t = table_of_rows rows.now roots.now in
         (result ≡ written ours t (length bytes.old)) × (bytes.new ≡ bytes_written ours t bytes.old) }
