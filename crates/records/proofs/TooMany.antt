@@ -40,3 +40,19 @@ module _ (z : Size) (rows : List Row) (roots m : List ℕ) (h : row_ceiling < le
   pub too_many_listed : (b : List ℕ) → Lists z rows roots m b (Err Sizes) m b
   unfolding listed matrix_listed bytes_listed
   too_many_listed b = rw judged_so (refl, refl, refl)
+
+  -- Each part apart.
+  pub too_many_reply : Err Sizes ≡ analysed z (table_of_rows rows roots) (length m)
+  too_many_reply = too_many.0
+
+  pub too_many_pairs : m ≡ matrix_after z (table_of_rows rows roots) m
+  too_many_pairs = too_many.1
+
+  pub too_many_listed_reply : (b : List ℕ) → Err Sizes ≡ listed z (table_of_rows rows roots) (length m) (length b)
+  too_many_listed_reply b = (too_many_listed b).0
+
+  pub too_many_listed_pairs : (b : List ℕ) → m ≡ matrix_listed z (table_of_rows rows roots) m (length b)
+  too_many_listed_pairs b = (too_many_listed b).1
+
+  pub too_many_listed_bytes : (b : List ℕ) → b ≡ bytes_listed z (table_of_rows rows roots) (length m) b
+  too_many_listed_bytes b = (too_many_listed b).2
