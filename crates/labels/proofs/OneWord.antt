@@ -1,7 +1,7 @@
 -- A set of our size in the code's own terms: it is one word x, and label l is bit l of it.
 -- Assumes nothing.
 use mathlib.Core.Path.{◌≡◌, refl, sym, ap, ap₂, ◌∙◌}
-use mathlib.Core.Bool.{not}
+use mathlib.Core.Bool.{not, false}
 use mathlib.Core.List.{[], ◌∷◌}
 use Prim.Native.Nat.{ℕ, zero, suc, ◌+◌, ◌-◌, ◌*◌, ◌/◌, ◌%◌, ◌^◌, ◌≤◌, ◌<◌}
 use native.Mathlib.Nat.{div-eq_of_lt, mod-eq_of_lt, zero-mul, one-mul, pow-suc}
@@ -26,6 +26,10 @@ pub member_one_beyond : (x l : ℕ) → label_ceiling ours.words ≤ l → membe
 unfolding member
 member_one_beyond x l h =
     ap (λ (y : ℕ). bit y (l % word_bits)) (get_or-eq_default (x ∷ []) 0 {n = l / word_bits} (omega arith)) ∙ bit_of_zero (l % word_bits)
+
+-- so it is not found there, by whatever number it goes
+pub none_beyond : (x l n : ℕ) → n ≡ l → label_ceiling ours.words ≤ n → false ≡ eqb (member (x ∷ []) l) 1
+none_beyond x l n e h = sym (ap (λ (y : ℕ). eqb y 1) (ap (λ (k : ℕ). member (x ∷ []) k) (sym e) ∙ member_one_beyond x n h))
 
 pub single_one : (l : ℕ) → l < label_ceiling ours.words → single ours.words l ≡ 2 ^ l ∷ []
 unfolding single

@@ -24,6 +24,7 @@ pub trait Member: Copy {
     }
 
     // Whether this member is in the set.
+    #[tactic(auto, using(crate::proofs::OneWord::none_beyond))]
     fn is_in(self, set: u64) -> bool
         ensures { result ≡ eqb (member (set ∷ []) (bit_number self)) 1 }
     {
