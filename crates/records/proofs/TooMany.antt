@@ -56,3 +56,8 @@ module _ (z : Size) (rows : List Row) (roots m : List ℕ) (h : row_ceiling < le
 
   pub too_many_listed_bytes : (b : List ℕ) → b ≡ bytes_listed z (table_of_rows rows roots) (length m) b
   too_many_listed_bytes b = (too_many_listed b).2
+
+-- What too many rows come to, in the analysis and in the listing.
+pub ruleset analysing_too_many = (too_many_reply, too_many_pairs)
+
+pub ruleset listing_too_many = (too_many_listed_reply, too_many_listed_pairs, too_many_listed_bytes)

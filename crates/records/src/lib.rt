@@ -17,7 +17,7 @@ use table::{Columns, Room};
 
 // Marks in the lent matrix every two labels that may run at the same time in main, and hands back the rounds: the analysis of the
 // table whose rows are these records. A recipe that is not admitted is refused, and then the matrix is left as it was.
-#[tactic(auto, using(crate::proofs::TooMany::too_many_reply, crate::proofs::TooMany::too_many_pairs))]
+#[tactic(auto, using(crate::proofs::TooMany::analysing_too_many))]
 pub fn analyse_rows(rows: &[Row], roots: &[u16], matrix: &mut [u64]) -> Result<u32, Refusal>
     ensures { let t = table_of_rows rows.now roots.now in
         (result ≡ analysed ours t (length matrix.old)) × (matrix.new ≡ matrix_after ours t matrix.old) }
@@ -27,7 +27,7 @@ pub fn analyse_rows(rows: &[Row], roots: &[u16], matrix: &mut [u64]) -> Result<u
 
 // Writes the listing of the recipe whose rows are these records to the front of the lent bytes, marks its pairs in the lent matrix, and
 // hands back the listing's length. What is refused, a listing that does not fit among it, leaves the bytes and the matrix as they were.
-#[tactic(auto, using(crate::proofs::TooMany::too_many_listed_reply, crate::proofs::TooMany::too_many_listed_pairs, crate::proofs::TooMany::too_many_listed_bytes))]
+#[tactic(auto, using(crate::proofs::TooMany::listing_too_many))]
 pub fn list_rows(
     rows: &[Row],
     roots: &[u16],
