@@ -117,13 +117,13 @@ module _ {z : Size} {t : Table} {pairs : List ℕ} {held : List Summary} {row : 
 -- ---- the table that a round works on
 
 abbrev pub on : Turn → Table
-on u = lists_of u.recipe.now.table
+on u = lists_of u.recipe.table
 
 pub right_sizes : (u : Turn) → RightSizes ours (rows (on u)) (length (on u).xs) (length (on u).ys) (procs (on u))
-right_sizes u = sizes_right_lem ours (on u) u.recipe.now.admitted
+right_sizes u = sizes_right_lem ours (on u) u.recipe.admitted
 
 pub standing :
     (u : Turn) {pairs : List ℕ} {row : ℕ} → row < rows (on u) → length pairs ≡ matrix_words ours.words → Words pairs
     → Standing ours (on u) pairs u.held.now row
 standing u there size words =
-    record { ok = u.recipe.now.admitted; state = u.whole; there = there; matrix = record { size = size; words = words } }
+    record { ok = u.recipe.admitted; state = u.whole; there = there; matrix = record { size = size; words = words } }

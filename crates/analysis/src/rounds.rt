@@ -17,8 +17,8 @@ use recipe::Recipe;
 
 // Works out the summary of a body.
 fn body_summary(new: &mut Summary, turn: &Turn<'_>, root: RowNumber)
-    requires { root.0 < rows (lists_of turn.now.recipe.now.table) }
-    ensures { let t = lists_of turn.now.recipe.now.table in
+    requires { root.0 < rows (lists_of turn.now.recipe.table) }
+    ensures { let t = lists_of turn.now.recipe.table in
         words_in new.new ≡ row_words ours.words t turn.now.held.now root.0 }
 {
     matrix::clear(&mut new.pairs);
@@ -27,9 +27,9 @@ fn body_summary(new: &mut Summary, turn: &Turn<'_>, root: RowNumber)
 
 // A round: every body, called or not.
 fn round(new: &mut State, turn: &Turn<'_>)
-    ensures bodies { let t = lists_of turn.now.recipe.now.table in
+    ensures bodies { let t = lists_of turn.now.recipe.table in
         (f : ℕ) → f < procs t → held_for new.new f ≡ body_words ours.words (program_of t) turn.now.held.now f }
-    ensures others { let t = lists_of turn.now.recipe.now.table in
+    ensures others { let t = lists_of turn.now.recipe.table in
         (f : ℕ) → procs t ≤ f → held_for new.new f ≡ held_for new.old f }
 {
     let table = &turn.recipe.table;
@@ -53,7 +53,7 @@ pub(crate) fn run(recipe: &Recipe<'_>, matrix: &mut [u64]) -> u32
     // A loop and no `for`: how often it runs is what it finds out, and a range would need a reply past its end, which never comes.
     loop {
         let turn = Turn {
-            recipe: &*recipe,
+            recipe: *recipe,
             held: &held,
         };
         round(&mut new, &turn);

@@ -5,10 +5,10 @@ ghost use Rattle.analysis.specs.Inner.{Whole};
 use crate::state::State;
 use recipe::Recipe;
 
-// An admitted recipe, and a whole summary for each procedure.
+// An admitted recipe, and a whole summary for each procedure. The recipe lies in it, so that its columns are one load away from each row.
 #[derive(Clone, Copy)]
 pub(crate) struct Turn<'a> {
-    pub(crate) recipe: &'a Recipe<'a>,
+    pub(crate) recipe: Recipe<'a>,
     pub(crate) held: &'a State,
     ghost whole: { Whole ours held.now },
 }

@@ -1,19 +1,22 @@
 -- What is known of an admitted table: the judge passed every rule, so no place breaks any.
 -- Assumes nothing.
 use Prim.Native.Nat.{ℕ, ◌≤◌, ◌<◌}
-use mathlib.Core.Path.{◌≡◌, refl, sym, ◌∙◌, subst}
-use mathlib.Core.Bool.{true, false, ◌&&◌, false≢true}
+use mathlib.Core.Path.{◌≡◌, refl, sym, ap, ◌∙◌, subst}
+use mathlib.Core.Logic.{⊎_elim}
+use mathlib.Core.Bool.{Bool, true, false, ◌&&◌, false≢true}
 use native.Mathlib.Omega.{arith}
 use borrow.Author.Tests.{ltb-true, ltb-false, leb-false, eqb-false, not-false}
 use lib.Dec.{ltb, eqb}
 use lib.ListN.{length}
+use Rattle.std.specs.Prelude.{Ok}
 use Rattle.numbers.specs.Sizes.{Size, label_ceiling}
-use Rattle.recipe.specs.Tables.{Table, Kind, kind_of, rows, procs, kind_at, x_at, y_at, root_at}
+use Rattle.recipe.specs.declared.Kind as coded
+use Rattle.recipe.specs.Tables.{Table, Kind, kind_of, meant, rows, procs, kind_at, x_at, y_at, root_at}
 use Rattle.recipe.specs.Inner.{RightSizes}
 use Rattle.recipe.specs.Offences.{KeepsRules}
 use Rattle.recipe.specs.Rules.{rules_of, operands_right, operand_wrong, uses, IsAdmitted}
 use Rattle.recipe.specs.Statements.{Child}
-use Rattle.recipe.proofs.Operands.{and_first, and_second, child_before}
+use Rattle.recipe.proofs.Operands.{OneChild, and_first, and_second, child_before}
 use Rattle.recipe.proofs.Judging.{sized}
 use Rattle.recipe.proofs.Offences.{admitted_kept}
 
@@ -82,6 +85,13 @@ module _ (z : Size) (t : Table) (ok : IsAdmitted z t) where
     pub finish_child : kind_of (kind_at t i) ≡ Kind.finish → x_at t i < i
     unfolding operands_right
     finish_child = first_below Kind.finish i refl
+
+    -- So has the child of any row with one child.
+    pub only_child : {k : coded.Kind} → OneChild k → kind_of (kind_at t i) ≡ meant (Ok k) → x_at t i < i
+    unfolding operands_right
+    only_child {k} one e =
+        let rule : coded.Kind → Bool = λ j. operands_right z (meant (Ok j)) (x_at t i) (y_at t i) i (procs t) in
+        first_below (meant (Ok k)) i (⊎_elim (ap rule) (⊎_elim (ap rule) (ap rule)) one) e
 
     -- A call names a procedure that is there.
     pub call_target : kind_of (kind_at t i) ≡ Kind.call → x_at t i < procs t

@@ -2,13 +2,17 @@
 -- Assumes nothing.
 use Prim.Native.Nat.{ℕ, zero, suc, ◌<◌}
 use mathlib.Core.Path.{◌≡◌, refl, ap, subst}
+use mathlib.Core.Logic.{◌⊎◌, ⊎_elim}
 use mathlib.Core.Bool.{Bool, true, false, ◌&&◌, false≢true}
 use native.Mathlib.Omega.{arith}
 use borrow.Author.Tests.{ltb-true, eqb-true, eq-eqb, not-false}
 use lib.Dec.{eqb, ltb}
+use Rattle.std.specs.Prelude.{Ok}
 use Rattle.numbers.specs.Sizes.{Size}
 use Rattle.numbers.specs.General.{one_if}
-use Rattle.recipe.specs.Tables.{Table, Kind, kind_of, procs, kind_at, x_at, y_at}
+use Rattle.recipe.specs.declared.Kind as coded
+use Rattle.recipe.specs.declared.Kind.TheVariants as coded_as
+use Rattle.recipe.specs.Tables.{Table, Kind, kind_of, meant, procs, kind_at, x_at, y_at}
 use Rattle.recipe.specs.Rules.{operands_right, operand_wrong, uses_by}
 use Rattle.recipe.specs.Statements.{Child}
 
@@ -43,6 +47,32 @@ counted_equal a b = go (eqb a b) refl
 -- A number is counted once as itself.
 pub counted_once : (a : ℕ) → one_if (eqb a a) ≡ 1
 counted_once a = ap one_if (eq-eqb a a refl)
+
+-- The kinds of rows with one child.
+abbrev pub OneChild : coded.Kind → Type 0
+OneChild k = (k ≡ coded_as.Loop) ⊎ ((k ≡ coded_as.Async) ⊎ (k ≡ coded_as.Finish))
+
+-- One that is neither of the first two is the last.
+pub last_one : {k : coded.Kind} → OneChild k → (k ≡ coded_as.Loop → ⊥) → (k ≡ coded_as.Async → ⊥) → k ≡ coded_as.Finish
+last_one one first second = ⊎_elim (λ e. absurd (first e)) (⊎_elim (λ e. absurd (second e)) (λ e. e)) one
+
+-- The kinds of rows with none.
+abbrev pub NoChild : coded.Kind → Type 0
+NoChild k = (k ≡ coded_as.Skip) ⊎ ((k ≡ coded_as.Step) ⊎ (k ≡ coded_as.Call))
+
+-- The one child is the first operand.
+pub one_child_uses : {k : coded.Kind} (x y i : ℕ) → OneChild k → uses_by (meant (Ok k)) x y i ≡ one_if (eqb x i)
+unfolding uses_by
+one_child_uses {k} x y i one =
+    let used : coded.Kind → ℕ = λ j. uses_by (meant (Ok j)) x y i in
+    ⊎_elim (λ e. ap used e) (⊎_elim (λ e. ap used e) (λ e. ap used e)) one
+
+-- Where there is none, no row is used.
+pub no_child_uses : {k : coded.Kind} (x y i : ℕ) → NoChild k → uses_by (meant (Ok k)) x y i ≡ 0
+unfolding uses_by
+no_child_uses {k} x y i none =
+    let used : coded.Kind → ℕ = λ j. uses_by (meant (Ok j)) x y i in
+    ⊎_elim (λ e. ap used e) (⊎_elim (λ e. ap used e) (λ e. ap used e)) none
 
 -- A child has a smaller number than its row.
 pub child_below : (z : Size) (k : Kind) (x y row procs i : ℕ) → operands_right z k x y row procs ≡ true → 0 < uses_by k x y i → i < row

@@ -9,7 +9,7 @@ use Rattle.analysis.proofs.rounds.body_summary.Goals as goal
 pub returns : goal.returns
 returns c =
     let u = c.args.turn.now in
-    let t = lists_of u.recipe.now.table in
-    body_row ours t u.recipe.now.admitted u.whole c.args.root.0 c.requires c.args.new.now.pairs (search rules)
+    let t = lists_of u.recipe.table in
+    body_row ours t u.recipe.admitted u.whole c.args.root.0 c.requires c.args.new.now.pairs (search rules)
     (c.row_summary-new.ensures
     ∙ ap (λ (m : List ℕ). marked_into ours.words m (row_words ours.words t u.held.now c.args.root.0)) c.clear.ensures)

@@ -15,7 +15,7 @@ bounds-new-f c = omega (arith, (right_sizes c.args.turn.now).few_procs_lem)
 pub body_summary-requires : goal.body_summary-requires
 body_summary-requires c =
     let u = c.args.turn.now in
-    root_row ours (on u) u.recipe.now.admitted c.loop-f.f c.loop-f-test.true
+    root_row ours (on u) u.recipe.admitted c.loop-f.f c.loop-f-test.true
 
 pub loop-f-preserved : goal.loop-f-preserved
 loop-f-preserved c =

@@ -8,4 +8,4 @@ use Rattle.analysis.proofs.rounds.round.Given as goal
 
 abbrev pub invariant-loop-f : goal.invariant-loop-f
 invariant-loop-f l =
-    Rounding (body_words ours.words (program_of (lists_of l.turn.recipe.now.table)) l.turn.held.now) l.fn.new l.new l.f
+    Rounding (body_words ours.words (program_of (lists_of l.turn.recipe.table)) l.turn.held.now) l.fn.new l.new l.f
