@@ -10,10 +10,11 @@ use lib.Dec.{eqb, leb}
 use lib.ListN.{length, get_or, take, drop}
 use lib.Seq.{drop-cons}
 use Rattle.numbers.specs.General.{in_turn, sum_below}
-use Rattle.numbers.specs.Sizes.{ours}
+use Rattle.numbers.specs.Sizes.{ours, label_ceiling}
 use Rattle.labels.specs.Sets.{member}
+use Rattle.labels.proofs.SetLaws.{member_none}
 use Rattle.matrix.specs.Matrix.{Pair, partners}
-use Rattle.numbers.proofs.InTurnLaws.{length_in_turn}
+use Rattle.numbers.proofs.InTurnLaws.{length_in_turn, none_in_turn}
 use Rattle.listing.specs.Pairs.{pair_at, pairs_of}
 use Rattle.listing.specs.Listing.{pair_line, lines}
 use Rattle.listing.proofs.LineLaws.{lines_append, lines_one}
@@ -52,6 +53,22 @@ module _ (f : ℕ → List Pair) where
   bytes_in_turn n = ap length (lines_in_turn n) ∙ length_in_turn (λ k. lines (f k)) n
 
 -- ---- one word a label
+
+no_line_of_none : (i j : ℕ) → lines (pair_at (0 ∷ []) i j) ≡ []
+unfolding lines
+no_line_of_none i j =
+    ap lines (pair_by_tests (0 ∷ []) i j (leb i j) false refl (ap (λ (x : ℕ). eqb x 1) (member_none ours.words j)) ∙ go (leb i j))
+  where
+    go : (a : Bool) → cond {A = List Pair} (a && false) ((i, j) ∷ []) [] ≡ []
+    go true = refl
+    go false = refl
+
+-- A label without partners has no lines.
+pub no_lines_of_none : (word i : ℕ) → word ≡ 0 → lines (pairs_of ours.words (word ∷ []) i) ≡ []
+no_lines_of_none word i none =
+    rw none
+    (lines_in_turn (pair_at (0 ∷ []) i) (label_ceiling ours.words)
+    ∙ none_in_turn (λ k. lines (pair_at (0 ∷ []) i k)) (label_ceiling ours.words) (λ j h. no_line_of_none i j))
 
 partners_one : (m : List ℕ) (i : ℕ) → i < length m → partners ours.words m i ≡ get_or m i 0 ∷ []
 partners_one m i h =
